@@ -11,7 +11,7 @@ _ga144() {
     debug) options='--limit -h --help' ;;
     explore) is_file=yes options='--strict --json --chip --limit -h --help' ;;
     race) options='--workers --calls --limit -h --help' ;;
-    check) is_file=yes options='--most --seconds --settled --session --never --ends --json --progress -h --help' ;;
+    check) is_file=yes options='--most --seconds --settled --session --never --ends --same --json --progress -h --help' ;;
     dap) options='-h --help' ;;
     asm) is_file=yes options='--json -h --help' ;;
     list) is_file=yes options='-h --help' ;;

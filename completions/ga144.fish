@@ -30,6 +30,7 @@ complete -c ga144 -n '__fish_seen_subcommand_from check' -l settled -d 'Let each
 complete -c ga144 -n '__fish_seen_subcommand_from check' -l session -x -d 'Write the session of the Kth kind of end, counted from 1'
 complete -c ga144 -n '__fish_seen_subcommand_from check' -l never -x -d 'Find an event after which COND holds: COND or COND .., as of run until'
 complete -c ga144 -n '__fish_seen_subcommand_from check' -l ends -d 'Show the ends of source that has expectations, too'
+complete -c ga144 -n '__fish_seen_subcommand_from check' -l same -d 'Expect that all orders have the same end'
 complete -c ga144 -n '__fish_seen_subcommand_from check' -l json -d 'Print JSON objects, one a line (docs/JSON.md)'
 complete -c ga144 -n '__fish_seen_subcommand_from check' -l progress -d 'Print on standard error, each second, how many states there are'
 complete -c ga144 -n '__fish_seen_subcommand_from check' -s h -l help -d 'Print help'

@@ -29,7 +29,11 @@ class Answer:
     """The text of the objects about one file."""
 
     def __init__(self, objects, most=1000000, seconds=0, conditions=1):
-        self.head, *self.rows = objects
+        self.head, *rows = objects
+        self.rows = [it for it in rows if it["answer"] != "same"]
+        # `--same` adds the last object
+        self.asked = rows[len(self.rows) :]
+        assert self.asked in ([], [it for it in rows if it["answer"] == "same"])
         self.most, self.seconds, self.conditions = most, seconds, conditions
         self.at_least = "" if self.head.get("explored", True) else "at least "
 
@@ -39,7 +43,15 @@ class Answer:
         return "" if stopped is None else {**bounds, **STOPS}[stopped] + "\n"
 
     def text(self):
-        return getattr(self, self.head["answer"])()
+        return getattr(self, self.head["answer"])() + "".join(self.same(it) for it in self.asked)
+
+    # ---- one end
+
+    def same(self, it):
+        """The line of `--same`."""
+        outcomes = {"holds": "holds in every order", "broken": f"broken, {self.at_least}{it['ends']} ends", "unknown": "not known"}
+        assert (it["ends"] > 1) == (it["outcome"] == "broken")
+        return f"one end: {outcomes[it['outcome']]}\n"
 
     # ---- expectations
 

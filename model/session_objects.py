@@ -1,11 +1,8 @@
 #!/usr/bin/env python3
 """The text of `ga144 explore`, made from the objects of `explore --json`: a second reading of docs/JSON.md, "Sessions".
 
-A text has what the objects don't: the source of a step at the end of its line, line 0 of `whence`, A after `+*`, and the line of the step that made
-what `because` tests. `comparable` leaves these out of a text. How many conditions a run has is in the line that asks.
+How many conditions a run has is in the line that asks, and whether it names the value of `whence`.
 """
-
-import re
 
 SIDES = ("right", "down", "left", "up")
 LETTERS = {"right": "r", "down": "d", "left": "l", "up": "u"}
@@ -38,6 +35,15 @@ def part_text(it, part="part", index="index"):
     if it[part] in ("ram", "rom"):
         return f"{it[index]:02x}"
     return it[part] + ("" if it[index] is None else str(it[index]))
+
+
+def source_text(it):
+    """What the source has for a step or a cell, at the end of a line."""
+    if it["source"] is None:
+        assert it["line"] is None and it["column"] is None
+        return ""
+    assert f" {it['line']}:{it['column']}: " in it["source"] or int(it["source"].split(": ")[0].split(" ")[-1]) <= it["line"]
+    return f" \\ {it['source']}"
 
 
 class SessionText:
@@ -105,31 +111,48 @@ class SessionText:
 
     def effects_text(self, it):
         assert it["nodes"] == len(it["rows"])
-        return f"effects {it['events']} {it['nodes']}\n" + "".join(f"{row['node']} {row['first_step']} {row['steps']}\n" for row in it["rows"])
+        rows = (f"{row['node']} {row['first_step']} {row['steps']}{source_text(row)}\n" for row in it["rows"])
+        return f"effects {it['events']} {it['nodes']}\n" + "".join(rows)
 
     def at_text(self, it):
         rows = ((row, "".join(f" {name} {hex6(row[name])}" for name in "tsrabp")) for row in it["rows"])
-        return "".join(f"{it['node']} {row['step']} {deed_text(row, it['node'])}{registers}\n" for row, registers in rows)
+        return "".join(f"{it['node']} {row['step']} {deed_text(row, it['node'])}{registers}{source_text(row)}\n" for row, registers in rows)
 
     def whence_text(self, it):
         is_own = bool(it["rows"]) and (it["rows"][0]["node"], it["rows"][0]["step"]) == (it["node"], it["step"])
         users = ("" if row["user"] == 0 and is_own else f">{row['user']}" for row in it["rows"])
+        step = f"{it['node']} {it['step']} {deed_text(it, it['node'])}"
+        if it["part"] is None:
+            return f"{step}{source_text(it)}\n"
+        head = f"0 {step}{self.queried_text(it)}{source_text(it)}\n" if it["first"] == 1 and not is_own else ""
         lines = "".join(f"{row['number']}{user} {self.value_line(row)}\n" for row, user in zip(it["rows"], users))
-        none = "none\n" if not it["rows"] and it["part"] is not None else ""
-        return lines + none + ("" if it["more_from"] is None else f"more from {it['more_from']}\n")
+        none = "" if it["rows"] else "none\n"
+        return head + lines + none + ("" if it["more_from"] is None else f"more from {it['more_from']}\n")
+
+    def queried_text(self, it):
+        """The queried value of line 0; the word that a step sent is in its text already."""
+        is_named = self.line.split(" ")[3:4] not in ([], ["from"])
+        return f" {part_text(it)} {hex6(it['value'])}" if is_named or it["what"] != "pass" or it["from"] != it["node"] else ""
 
     @staticmethod
     def value_line(row):
+        """The line of a value, without its numbers."""
+        end = (", never set" if row["never_set"] else "") + source_text(row)
         if row["what"] == "load":
-            return f"{row['node']} load {part_text(row)} {hex6(row['value'])}"
-        count = f" x{row['count']}" if row["count"] > 1 else ""
+            return f"{row['node']} load {part_text(row)} {hex6(row['value'])}{end}"
+        count = f" x{row['count']}" if row.get("count", 1) > 1 else ""
         named = f" {part_text(row)}" if row["part"] in NAMED else ""
         word = "" if row["what"] == "pass" and row["part"] in ("t", "i") else f" {hex6(row['value'])}"
-        return f"{row['node']} {row['step']} {deed_text(row, row['node'])}{named}{word}{count}"
+        both = "" if row["a"] is None else f" a {hex6(row['a'])}"
+        return f"{row['node']} {row['step']} {deed_text(row, row['node'])}{named}{word}{both}{count}{end}"
 
     def because_text(self, it):
         tested = ("" if row["what"] == "pass" else f" {part_text(row)} {hex6(row['value'])}" for row in it["rows"])
-        rows = (f"{it['node']} {row['step']} {deed_text(row, it['node'])}{word}\n" for row, word in zip(it["rows"], tested))
+        made = ({name.removeprefix("source_"): value for name, value in row.items() if name.startswith("source_")} for row in it["rows"])
+        rows = (
+            f"{it['node']} {row['step']} {deed_text(row, it['node'])}{word}{source_text(row)}\n  {self.value_line(source)}\n"
+            for row, word, source in zip(it["rows"], tested, made)
+        )
         return "".join(rows) or ("" if self.line.endswith(" 0") else "none\n")
 
     def races_text(self, it):
@@ -174,16 +197,3 @@ class SessionText:
                 ring.append(after[ring[-1]])
             if after.get(ring[-1]) == first and min(ring) == first:
                 yield ring
-
-
-def comparable(line, text):
-    """The text of an answer without what its object doesn't have."""
-    command = line.split(" ")[0]
-    if command not in ("at", "effects", "whence", "because", "run") or text.startswith("no "):
-        return text
-    lines = [re.sub(r"(, never set)? \\ .*|, never set$", "", it) for it in text.split("\n")]
-    if command == "whence":
-        lines = [re.sub(r"( \+\* [0-9a-f]{6}) a [0-9a-f]{6}", r"\1", it) for it in lines if not re.match("(0|[0-7](0[0-9]|1[0-7])) ", it)]
-    if command == "because":
-        lines = [it for it in lines if not it.startswith("  ")]
-    return "\n".join(lines)

@@ -454,6 +454,7 @@ WRONG = (
     (ENDS, "if reader is not None and self.at(chip, reader).waits(READS, side):", 'if reader is not None and self.at(chip, reader).waits(("read",), side):'),
     (ENDS, "return 5 if any(", "return 5 if all("),
     (ENDS, "if chip in self.kind_at and not self.kind_at[chip][1]}", "if chip in self.kind_at}"),
+    (ENDS, "        return sum(self.kinds.values())", "        return len(self.kinds)"),
     (ENDS, "            last = place\n", "            last = last or place\n"),
     # expectations
     (EXPECTATIONS, "return wait[0] == kind[:-1] and {*wait[1]} == {", "return wait[0] == kind[:-1] and {*wait[1]} >= {"),

@@ -6,6 +6,7 @@ typedef unsigned char Byte;
 Byte *heap_alloc(Size, Size);
 void heap_free(Byte *);
 Size ga_session(const Byte *, Size, Byte *, Size, Byte *, Size, unsigned);
+Size ga_session_json(const Byte *, Size, Byte *, Size, Byte *, Size, unsigned);
 Size ga_kept(const Byte *, Size, Byte *, Size, unsigned);
 Size ga_assemble(const Byte *, Size, Byte *, Size, Byte *, Size);
 Size ga_check(const Byte *, Size, Byte *, Size, unsigned, unsigned, unsigned);
@@ -42,6 +43,7 @@ PAGE(told) Byte *told(void) { return faults; }
     return call;
 
 PAGE(run) Size run(Size count, unsigned limit) { ANSWER(ga_session(input, count, output, output_room, &end, 1, limit)) }
+PAGE(run_json) Size run_json(Size count, unsigned limit) { ANSWER(ga_session_json(input, count, output, output_room, &end, 1, limit)) }
 PAGE(kept) Size kept(Size count, unsigned limit) { ANSWER(ga_kept(input, count, output, output_room, limit)) }
 PAGE(assemble) Size assemble(Size count) {
     __builtin_memset(faults, 0, sizeof faults);

@@ -110,14 +110,17 @@ def links(browser, ready, check):
     led = browser.run(EACH_LINK)
     check(led[0] > 30 and not led[1], f"links that lead elsewhere: {led}")
     # Numbers in the first line of an answer are no steps.
-    heads = browser.run("return ['kept 107 made 115 limit 1000000', 'removed 12 kept 103', 'idle 117', 'chain 100', 'made 101', 'mem 001 10 000000'].map(it => parts_of('x', it).filter(it => it.step).length)")
-    check(heads == [0] * 6, f"numbers that are no steps: {heads}")
+    heads = browser.run("""
+const answers = { "kept 107 made 115 limit 1000000": { command: "count", kept: 107, made: 115, limit: 1000000 }, "removed 12 kept 103": { command: "rewind", removed: 12, kept: 103 }, "idle 117": { command: "who", idle: 117, deadlocked_idle: 0, rows: [{ node: "117", does: "reads", right: "116" }] },
+  "chain 100": { command: "why", leads: true, rows: Array(100).fill({ node: "100", step: 1, what: "fetch" }) }, "made 101": { command: "run", events: 101, end: "made" }, "mem 001 10 000000": { command: "mem", node: "001", address: 16, word: 0 } };
+return Object.entries(answers).map(([line, it]) => parts_named(line, names_of(it, 0, [line])).map(it => it.node || it.step || 0).filter(it => it))""")
+    check(heads == [[], [], [], [], [], ["001"]], f"numbers that are no steps: {heads}")
 
 
 def redo(browser, ready, check):
     """Rollback, redo, rollback: each gives the same chip. After another command, redo is disabled."""
     ready()
-    dump = lambda: browser.run("return [page.session.ask(['dump'])[0].join('\\n'), page.session.events.length, find('take').textContent, find('redo').disabled]")
+    dump = lambda: browser.run("return [page.session.answer_text('dump').join('\\n'), page.session.events.length, find('take').textContent, find('redo').disabled]")
     browser.click(step(5))
     seen = [dump()]
     for name in ("take", "redo", "take", "redo"):
@@ -138,7 +141,7 @@ def redo(browser, ready, check):
     browser.click(button("step"))
     check(dump()[3], "redo after another step")
     text = browser.run("return page.session.text")
-    check(browser.run(f"const it = page.session.ask(['dump'])[0].join(); page.open({json.dumps(text)}); return it === page.session.ask(['dump'])[0].join()"), "a session's text after redo gives another chip")
+    check(browser.run(f"const it = page.session.answer_text('dump').join(); page.open({json.dumps(text)}); return it === page.session.answer_text('dump').join()"), "a session's text after redo gives another chip")
 
 
 def queries(browser, ready, check):
@@ -147,12 +150,12 @@ def queries(browser, ready, check):
     browser.click(LAST_STEP)
     for name, line in (("whence", "whence 001 10"), ("because", "because 001 10 5"), ("who", "who"), ("effects", "effects 001 10")):
         browser.click(button(name))
-        shown, wanted = browser.run(f"return [find('log').lastChild.textContent, '> {line}\\n' + page.session.ask(['{line}'])[0].map(it => it + '\\n').join('')]")
+        shown, wanted = browser.run(f"return [find('log').lastChild.textContent, '> {line}\\n' + page.session.answer_text('{line}').map(it => it + '\\n').join('')]")
         check(shown == wanted, f"the button {name}: {shown}")
     browser.click("document.querySelectorAll('#memory div')[2]")
     check(browser.run("return find('log').lastChild.textContent") == "> writes 001 02\n", "who wrote a cell")
     browser.click(button("races"))
-    check(browser.run("return [...find('racing').children].map(it => it.textContent).join() === page.session.ask(['races'])[0].slice(1).join()"), "the races by button")
+    check(browser.run("return [...find('racing').children].map(it => it.textContent).join() === page.session.answer_text('races').slice(1).join()"), "the races by button")
     browser.click(button("races"))
 
 
@@ -165,7 +168,7 @@ def ends(browser, ready, check):
     check(shown == wanted and kinds, f"the button check: {shown} instead of {wanted}")
     for kind in kinds:
         browser.click(link(kind))
-        made, asked = browser.run(f"return [page.session.ask(['save'])[0], page.core.check(page.session.load, 100000, page.session.limit, {kind.split()[1]}).trimEnd().split('\\n')]")
+        made, asked = browser.run(f"return [page.session.answer_text('save'), page.core.check(page.session.load, 100000, page.session.limit, {kind.split()[1]}).trimEnd().split('\\n')]")
         check(made == asked and len(made) > 9, f"the link {kind}: {made} instead of {asked}")
     for _ in kinds:
         browser.click(button("redo"))
@@ -176,7 +179,7 @@ def helped(browser, ready, check):
     ready()
     browser.click(button("help"))
     result = browser.run("""
-const answer = page.session.ask(["help"])[0], names = answer.filter(it => /^[a-z]/.test(it)).map(it => it.split(" ")[0]), rows = [...document.querySelectorAll("#helptext #commands ~ table tr")];
+const answer = page.session.answer_text("help"), names = answer.filter(it => /^[a-z]/.test(it)).map(it => it.split(" ")[0]), rows = [...document.querySelectorAll("#helptext #commands ~ table tr")];
 return [document.querySelectorAll("#helptext h3").length, names.join() === rows.map(it => it.querySelector("th").textContent.split(" ")[0]).join(), rows.every(it => it.children.length === 2 && it.children[1].textContent), names.length];""")
     check(result[0] >= 6 and result[1:3] == [True, True] and result[3] > 15, f"the help: {result}")
     browser.click("document.querySelector('#keys button')")

@@ -1,8 +1,9 @@
 #!/usr/bin/env python3
 """Tests page/out/ga144.html in a headless browser: page.py [SHOTS]. With SHOTS, a folder, it also takes screenshots and measures times.
 
-1. The page's core answers the sessions of examples/debug/ and examples/explore/ and generated ones as expected, and assembles and lists
-   generated sources like the reference model in model/, byte for byte.
+1. The page's core answers the sessions of examples/debug/ and examples/explore/ and generated ones as expected, with the objects of the
+   program if there is one, and assembles and lists generated sources like the reference model in model/, byte for byte. Each command of
+   examples/explore/ that is typed has the answer of the core.
 2. Random clicks. A rollback must remove the events that the page announces, the chip must be that of the preview, and the causes those of
    `why`. At the end, the session's text must give the same chip again: in the page, and in the program if `rt ci` built one.
 3. Runs in each order and until a condition, waits, effects of a rollback, words of a link, and the alternative of a race: each answer is that
@@ -68,10 +69,25 @@ OPENED = """
 const text = %s, whole = page.core.answer(text.replace(/^quit(\\n|$)/m, "\\0").split("\\0")[0].replace(/\\n?$/, "\\n") + "dump\\n", 1000000);
 if (!page.open(text)) return "refused";
 const traced = new Set();
-for (const n of NAMES) for (const line of page.session.ask(["trace " + n])[0].slice(1)) traced.add(line);
+for (const n of NAMES) for (const line of page.session.answer_text("trace " + n).slice(1)) traced.add(line);
 const kept = page.core.kept(page.session.load + page.session.commands, 1000000) || [];
 if (Array.from(kept, n => "step " + NAMES[n]).join() !== saved(page.session.events).join()) return "other events";
-return [whole.endsWith("\\n" + page.session.ask(["dump"])[0].join("\\n") + "\\n"), traced.size === page.session.events.length && page.session.events.every(it => traced.has(it.text))];
+return [whole.endsWith("\\n" + page.session.answer_text("dump").join("\\n") + "\\n"), traced.size === page.session.events.length && page.session.events.every(it => traced.has(it.text))];
+"""
+
+
+# Types the commands of a session: each answer in the log must be that of `explore` to the commands kept before it and this line.
+TYPED = """
+const { load, commands } = parted(%s), wrong = [];
+if (!page.open(load)) return wrong;
+for (const line of commands.filter(it => it !== "redo" && it !== "check" && it !== "help")) {
+  if (line === "quit") break;
+  const before = page.session.load + page.session.commands, after = page.core.answer(before + line + "\\n", 1000000).slice(page.core.answer(before, 1000000).length);
+  const answer = page.command(line).map(it => it + "\\n").join(""), rows = answer.split("\\n").length - 1;
+  const logged = find("log").lastChild.textContent, wanted = `> ${line}\\n` + (rows > 200 ? answer.split("\\n").slice(0, 200).join("\\n") + `\\n.. and ${rows - 200} more lines\\n` : answer);
+  if (answer !== after || logged !== wanted) wrong.push([line, answer, after, logged]);
+}
+return wrong;
 """
 
 
@@ -82,6 +98,12 @@ def conformance(browser):
             # The page answers as `explore`, to the byte. Refusals of `debug` have no reason.
             output = browser.run(f"return page.core.answer({bytes_of(typed)}, {limit})")
             check(wanted == (output if explored else re.sub(r"^(no \d+ [a-z]+): .*$", r"\1", output, flags=re.M)), f"{name}: other answers")
+            if os.path.exists(PROGRAM):
+                ran = subprocess.run([PROGRAM, "explore", "--json", "--limit", str(limit)], input=typed.encode("latin1"), capture_output=True).stdout
+                check(browser.run(f"return page.core.lines({bytes_of(typed)}, {limit})") == ran.decode(), f"{name}: other objects")
+            if explored and wanted.startswith("ready\n"):
+                wrong = browser.run(TYPED % json.dumps(typed))
+                check(not wrong, f"{name}: typed commands with other answers: {wrong[:1]}")
             if wanted.startswith("ready\n") and "no 4 memory" not in wanted:
                 opened = browser.run(OPENED % json.dumps(typed))
                 check(opened == [True, True], f"{name}: opened with another chip or history: {opened}")
@@ -108,19 +130,19 @@ const it = page.session.events[%d], step = it.ends[%d %% it.ends.length], marks 
 page.forget();
 page.choose(step);
 const stay = page.session.events.filter(e => marks[e.place] !== 2).map(e => e.text), goes = page.goes, others = %s;
-const asked = others.map(at => page.session.events[at].ends[0]), why = page.session.ask(asked.map(([n, k]) => `why ${n} ${k} ${step[0]} ${step[1]}`)).map(it => it[0].startsWith('chain '));
+const asked = others.map(at => page.session.events[at].ends[0]), why = page.session.ask(asked.map(([n, k]) => `why ${n} ${k} ${step[0]} ${step[1]}`)).map(it => it.leads);
 const causes = others.every((at, i) => marks[at] === 2 ? at === it.place || !why[i] : (marks[at] === 1) === why[i]);
 const any = (n, mark) => page.session.events.some(e => marks[e.place] === mark && e.ends.some(([m]) => m === n)), has = (it, kind) => it.classList.contains(kind);
 const colours = NAMES.every(n => has(find("n" + n), "goes") === any(n, 2) && has(find("n" + n), "past") === (!any(n, 2) && any(n, 1)))
     && [...document.querySelectorAll("#trace .step")].every(it => has(it, "goes") === (it.textContent[0] === "×") && has(it, "past") === (it.textContent[0] === "◆"));
-const said = page.said, nodes = JSON.stringify(page.then), button = document.getElementById('take').textContent, [head, ...rows] = page.takes;
-const firsts = Object.fromEntries(rows.map(row => row.split(' ').slice(0, 2))), effects = head === `effects ${goes} ${rows.length}` && page.session.events.every(e => e.ends.every(([n, k]) => (k >= firsts[n]) === (marks[e.place] === 2)));
+const said = page.said, nodes = JSON.stringify(page.then), button = document.getElementById('take').textContent, { rows } = page.takes;
+const firsts = Object.fromEntries(rows.map(it => [it.node, it.first_step])), effects = page.takes.events === goes && page.takes.nodes === rows.length && page.session.events.every(e => e.ends.every(([n, k]) => (k >= firsts[n]) === (marks[e.place] === 2)));
 if (!%s) return { goes, said, button, causes, effects, colours };
 document.getElementById('take').click();
 const left = page.session.events.map(e => e.text), traced = new Set();
-for (const n of NAMES) for (const line of page.session.ask(['trace ' + n])[0].slice(1)) traced.add(line);
+for (const n of NAMES) for (const line of page.session.answer_text('trace ' + n).slice(1)) traced.add(line);
 return { goes, said, button, causes, effects, colours, same: JSON.stringify(stay) === JSON.stringify(left), traced: traced.size === new Set(left).size && left.every(e => traced.has(e)),
-    chip: JSON.stringify(page.seen.nodes) === nodes, logged: document.getElementById('log').textContent };
+    chip: JSON.stringify(page.seen.nodes) === nodes && JSON.stringify(page.session.ask(NODES).map(node_of)) === nodes, logged: document.getElementById('log').textContent };
 """
 
 
@@ -154,16 +176,23 @@ def clicks(browser, name, dice):
         elif events:
             taken += what == "take"
             choose(browser, name, dice, events, what == "take")
-        count = browser.run("return [page.session.events.length, page.seen.count, page.session.ask(NAMES.map(n => 'trace ' + n)).every(([it]) => (page.session.steps[it.split(' ')[1]] || 0) === +it.split(' ')[2])]")
+        count = browser.run("return [page.session.events.length, page.seen.count, page.session.ask(NAMES.map(n => 'trace ' + n)).every(it => (page.session.steps[it.node] || 0) === it.rows.length), "
+                            "JSON.stringify([page.seen.nodes, page.seen.cells]) === JSON.stringify([page.session.ask(NODES).map(node_of), page.session.ask(cells_of(page.selected)).map(it => it.word)])]")
         check(count[1].startswith(f"kept {count[0]} made ") and count[2], f"{name}: the page draws {count[0]} events, the session has {count[1]}")
-    text, commands, script, said, dump = browser.run("return [page.session.text, page.session.image + page.session.commands, page.session.script, page.session.said, page.session.ask(['dump'])[0].join('\\n') + '\\n']")
+        check(count[3], f"{name}: the page draws other nodes or cells than the session has")
+    text, commands, script, objects, dump = browser.run("return [page.session.text, page.session.image + page.session.commands, page.session.script, page.session.said, page.session.answer_text('dump').join('\\n') + '\\n']")
+    dumped = json.dumps({"command": "dump", "text": dump}, separators=(",", ":")) + "\n"
+    check(browser.run(f"return page.core.lines({json.dumps(commands + 'dump' + chr(10))}, 1000000)") == objects + dumped, f"{name}: the session's commands give other objects or another chip")
+    said = browser.run(f"return page.core.answer({json.dumps(commands)}, 1000000)")
     check(browser.run(f"return page.core.answer({json.dumps(commands + 'dump' + chr(10))}, 1000000)") == said + dump, f"{name}: the session's commands give another chip")
-    check(browser.run(f"page.open({json.dumps(text)}); return page.session.ask(['dump'])[0].join('\\n') + '\\n'") == dump, f"{name}: the session's text gives another chip")
+    check(browser.run(f"page.open({json.dumps(text)}); return page.session.answer_text('dump').join('\\n') + '\\n'") == dump, f"{name}: the session's text gives another chip")
     check(browser.run(f"return page.core.answer({json.dumps(script + 'dump' + chr(10))}, 1000000)").endswith("\n" + dump), f"{name}: the session's script for debug gives another chip")
     if os.path.exists(PROGRAM):
         for mode, asked in (("explore", commands), ("debug", script)):
             ran = subprocess.run([PROGRAM, mode], input=(asked + "dump\n").encode(), capture_output=True).stdout.decode()
             check(ran == said + dump if mode == "explore" else ran.endswith("\n" + dump), f"{name}: the program's {mode} has other answers")
+        ran = subprocess.run([PROGRAM, "explore", "--json"], input=(commands + "dump\n").encode(), capture_output=True).stdout.decode()
+        check(ran == objects + dumped, f"{name}: the program's explore has other objects")
     return taken
 
 
@@ -269,7 +298,7 @@ for (const batch of [5000, 500, 50, 1]) for (let at = 0; at < 100; at++) {{
   small.session.step(Array(batch).fill("step 000"), small.session.questions("000"));
   if (small.session.events.length < before + batch) break;
 }}
-const made = small.session.events.length, step = small.command('step 000'), count = small.session.ask(['count'])[0][0], back = small.command('back'), again = small.command('step 000'), node = small.session.ask(['node 000'])[0][0];
+const made = small.session.events.length, step = small.command('step 000'), count = small.session.answer_text('count')[0], back = small.command('back'), again = small.command('step 000'), node = small.session.answer_text('node 000')[0];
 const kept = small.session.events.length;
 page.open(JSON.parse(find('sessions').textContent).fault);
 return {{ ran, first, made, step, count, back, again, node, kept, log: document.getElementById('log').textContent }};""")
@@ -283,7 +312,7 @@ def every_heap(browser):
     result = browser.run("""
 const source = "node 000\\n: main 3 dup +\\nnode 001\\n: main 4 dup + ;\\n";
 const ask = (core, image) => [core.assemble(source), core.list(source), core.shades(image, [0, 1, 0, 0, 1], 2), core.answer(image + "step 000\\nnode 000\\n", 9), core.kept(image + "run 40\\n", 90),
-  core.answer(image + "run greedy 900\\n" + "trace 000\\n".repeat(9), 999)];
+  core.answer(image + "run greedy 900\\n" + "trace 000\\n".repeat(9), 999), core.lines(image + "run greedy 900\\n" + "trace 000\\n".repeat(9), 999)];
 const image = page.core.assemble(source).image, enough = ask(page.core, image).map(it => JSON.stringify(it)), core = new Core(page.core.module), counts = enough.map(() => [0, 0]), other = [];
 for (let size = 1 << 20; size < 1 << 22; size += 1 << 14) {
   core.heap = size;
@@ -291,7 +320,7 @@ for (let size = 1 << 20; size < 1 << 22; size += 1 << 14) {
     if (JSON.stringify(it) === enough[i]) counts[i][0]++;
     else if (it === null || it === "" || (it.image === "" && it.told.endsWith("memory\\n")) || it === "no 19 memory line 0\\n" || (i === 3 && it.startsWith("ready\\nno 4 memory: "))
       // An incomplete answer counts as a refusal.
-      || (i === 5 && /^(memory \\d+|no 4 memory): /m.test(it))) counts[i][1]++;
+      || (i === 5 && /^(memory \\d+|no 4 memory): /m.test(it)) || (i === 6 && /"end":"memory"|"refused":4|"text":"no 19 memory/.test(it))) counts[i][1]++;
     else other.push([size, i, it]);
   });
 }

@@ -13,7 +13,7 @@ USED = """
 find("order").value = "rounds"; find("order").onchange();
 const logged = () => find("log").textContent.split("> ").pop().split("\\n").slice(1, -1);
 const press = (key, at = document.body) => at.dispatchEvent(new KeyboardEvent("keydown", { key, bubbles: true }));
-const query = line => { const it = page.core.answer(page.session.load + page.session.commands + line + "\\n", 1000000); return it.slice(page.session.said.length).split("\\n").slice(0, -1); };
+const query = line => { const before = page.session.load + page.session.commands, it = page.core.answer(before + line + "\\n", 1000000); return it.slice(page.core.answer(before, 1000000).length).split("\\n").slice(0, -1); };
 """
 
 
@@ -23,7 +23,7 @@ page.open(%s);
 press("u"); const there = document.activeElement.id;
 find("until").value = "stop"; press("Enter", find("until"));
 const reached = logged(), free = document.activeElement === document.body, events = page.session.events.map(it => it.text), rows = page.core.answer(page.session.script, 1000000).split("\\n").slice(1, -1);
-const saved = page.session.ask(["save"])[0], script = page.session.script, commands = page.session.commands;
+const saved = query("save"), script = page.session.script, commands = page.session.commands;
 find("who").click(); const who = logged(), who_asked = query("who");
 press("h"); const again = logged();
 page.choose(["000", 7]); page.select("001"); page.select("000"); const note = find("chipnote").textContent, ready = !find("effects").disabled;

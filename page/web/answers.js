@@ -1,40 +1,20 @@
-// Reads the core's answers. What the page knows of their text is here, and nowhere else.
+// Reads the core's answers: objects of docs/JSON.md where values are read, text where it is shown. What the page knows of their form is here,
+// and nowhere else.
 const NAMES = [];
 for (let y = 0; y < 8; y++) for (let x = 0; x < 18; x++) NAMES.push(`${y}${String(x).padStart(2, "0")}`);
 const NUMBER = Object.fromEntries(NAMES.map((name, i) => [name, i]));
 const NODES = NAMES.map(n => "node " + n);
 const STEPS = NAMES.map(n => `step ${n}\n`);
 
-const NO_MEMORY = "no 4 memory";
-const EVENT = /^(?:(\d{3}) (\d+) (fetch|run ([0-9a-f]{2})|wait|stop (\d+))|pass (\d{3}) (\d+) (\d{3}) (\d+) ([0-9a-f]{6}))$/;
-const NODE = /^node (\d{3}) (run|stop (\d)|(fetch|read|write) ([rdlu-]{4})) p (\w+) a (\w+) b (\w+) i (\w+) slot (\d) carry (\d) io (\w+) d (.*) r (.*)$/;
-const RAN = /^(?:reached|made|quiet|full|memory|spent) (\d+)/;
-// A race: the step, what else it could have been, and the commands that make it so.
-const RACE = /^(\d{3}) (\d+) (?:takes|reads) \w+(?: from \d{3})?, (or .*): (rewind (\d{3}) (\d+)), (step \d{3})$/;
-// The first line of an answer with a number of further lines.
-const COUNTED = /^(?:trace \d{3}|chain|effects \d+|words \d{3} \d{3}) (\d+)$/;
-// A step with the registers after it, and the cell and the source of its instruction word.
-const AT = /^(\d{3}) (\d+) (.+?) t (\w{6}) s (\w{6}) r (\w{6}) a (\w{6}) b (\w{6}) p (\w{6})(?: \\ (.*))?$/s;
-const PLACE = /^(\w{3})(?: (\S+))? (\d+)(?::(\d+))?: (.*)$/s;
+const NO_MEMORY = "no 4 memory", OUT_OF_MEMORY = { refused: 4, why: "memory" };
+// The object that a session begins with.
+const READY = '{"answer":"ready"}\n';
+const hex_word = number => hex(number, 6);
 
-// An event: its text, and its nodes with the step of each.
-function event_of(line) {
-  const m = line && EVENT.exec(line);
-  if (!m) return null;
-  if (m[1]) return { text: line, ends: [[m[1], +m[2]]], label: m[4] ? OPCODES[parseInt(m[4], 16)] : m[3] };
-  return { text: line, ends: [[m[6], +m[7]], [m[8], +m[9]]], label: m[10], pass: true };
-}
+// The objects of lines.
+function objects_of(lines) { return JSON.parse(`[${lines.trim().replaceAll("\n", ",")}]`); }
 
-// The event by which a run reached its condition.
-function event_reached(line) { return event_of(line.replace(/^reached \d+ (?:by \d+ )?/, "")); }
-
-function node_of(line) {
-  const m = NODE.exec(line);
-  if (!m) return null;
-  return { state: m[2], stop: m[3], wait: m[4], set: m[5], p: m[6], a: m[7], b: m[8], i: m[9], slot: +m[10], carry: m[11], io: m[12], d: m[13].split(" "), r: m[14].split(" ") };
-}
-
-// P and the next slot of each answer of `node` in a text, without the rest.
+// P and the next slot of each answer of `node` in a text, without the rest. These too are read of text, since there are as many.
 function nexts_of(text) {
   const found = [];
   for (let at = text.indexOf("\nnode "); at >= 0; at = text.indexOf("\nnode ", at + 1)) {
@@ -44,84 +24,149 @@ function nexts_of(text) {
   return found;
 }
 
-function race_of(line) {
-  const m = RACE.exec(line);
-  return m && { text: line, step: [m[1], +m[2]], other: m[3], back: [m[5], +m[6]], commands: [m[4], m[7]] };
+// What an own event, or the event of a row, does: the name of its opcode, or its kind.
+const label_of = it => it.what === "run" ? it.opcode : it.what === "stop" ? `stop ${it.stop}` : it.what;
+// The nodes of an event, with the step of each.
+const ends_of = it => it.what === "pass" ? [[it.from, it.from_step], [it.to, it.to_step]] : [[it.node, it.step]];
+
+// An event; its text is that of the core.
+class ChipEvent {
+  constructor(it) { this.ends = ends_of(it); this.pass = it.what === "pass"; this.label = this.pass ? hex_word(it.word) : label_of(it); }
+  get text() {
+    const code = OPCODES.indexOf(this.label), ends = this.ends.map(it => it.join(" ")).join(" ");
+    return this.pass ? `pass ${ends} ${this.label}` : `${ends} ${code < 0 ? this.label : `run ${hex(code, 2)}`}`;
+  }
+}
+const event_of = it => it && it.what ? new ChipEvent(it) : null;
+
+// The event of a line of text; null if it is none. It is read so where there are up to 10^5: objects of as many lines take ten times as long.
+function event_told(line) {
+  const [node, step, what, more, ...rest] = line.split(" ");
+  if (node === "pass") return new ChipEvent({ what: "pass", from: step, from_step: +what, to: more, to_step: +rest[0], word: parseInt(rest[1], 16) });
+  return ["fetch", "run", "wait", "stop"].includes(what) ? new ChipEvent({ node, step: +step, what, opcode: OPCODES[parseInt(more, 16)], stop: more }) : null;
 }
 
-function place_of(text) {
-  const m = text === undefined ? null : PLACE.exec(text);
-  return m && { cell: parseInt(m[1], 16), label: m[2] || "", line: +m[3], column: +m[4] || 0, text: m[5] };
+// The text of an answer that changed the chip or was refused; null of a run that reached a condition, which the core has to name.
+function text_of_change(it) {
+  if (it.refused) return `no ${it.refused} ${it.why}${it.hint ? `: ${it.hint}` : ""}`;
+  if (it.end) return it.end === "reached" ? null : `${it.end} ${it.events}${it.hint ? `: ${it.hint}` : ""}`;
+  return it.what ? event_of(it).text : it.removed ? `removed ${it.removed} kept ${it.kept}` : "none";
+}
+const text_of_count = it => `kept ${it.kept} made ${it.made} limit ${it.limit}`;
+
+// A node: its registers in hexadecimal, and the sides on which it waits.
+function node_of({ does, stop, slot, carry, rows, ...it }) {
+  const stack = which => rows.filter(({ part }) => which.includes(part)).map(({ value }) => hex_word(value));
+  return { does, stop, slot, carry, sides: ["right", "down", "left", "up"].filter(side => it["at_" + side]), p: hex_word(it.p), a: hex_word(it.a), b: hex_word(it.b), i: hex_word(it.i), io: hex_word(it.io), d: stack("tsd"), r: stack("r") };
 }
 
-function at_of(line) {
-  const m = AT.exec(line);
-  return m && { name: m[1], step: +m[2], deed: m[3], t: m[4], place: place_of(m[10]) };
+// A race, with the line that shows it: the step, what else it could have been, and the commands that make it so.
+function race_of(it, text) {
+  const commands = [`rewind ${it.rewind_node} ${it.rewind_step}`, `step ${it.then_node}`], upto = text.indexOf(`: ${commands[0]}`);
+  return { text, step: [it.node, it.step], other: text.slice(text.indexOf("or "), upto), back: [it.rewind_node, it.rewind_step], commands };
 }
 
-const word_of = rows => parseInt(rows[0].split(" ")[3], 16);
-const made_by = line => +(RAN.exec(line) || [0, 0])[1];
-const removed_by = line => +(/^removed (\d+)/.exec(line) || [0, 0])[1];
-const is_refused = line => line.startsWith("no ");
-const is_out_of_memory = line => line.startsWith(NO_MEMORY);
-// A run that ended since memory did.
-const is_cut_run = line => line.startsWith("memory ");
+// A text of source: the address of the cell, its label, and its line, with the column where the text begins within that; `front` is what is
+// before the line's text.
+function place_of(source) {
+  if (!source) return null;
+  const words = source.split(" "), is_number = text => !!text && text.endsWith(":") && +text.split(":")[0] > 0, at = is_number(words[2]) ? 2 : 1, [line, column] = words[at].split(":");
+  return { cell: parseInt(words[0], 16), label: at === 2 ? words[1] : "", line: +line, column: +column || 0, front: words.slice(0, at + 1).join(" ").slice(0, -1) };
+}
+
+// A step with T after it, and its cell and word of the source; `deed` is what it did, as `at` writes it.
+function row_of(name, it) {
+  const is_writer = it.from === name, deed = it.what !== "pass" ? label_of(it) : is_writer ? `sends ${hex_word(it.word)} to ${it.to} ${it.to_step}` : `takes ${hex_word(it.word)} from ${it.from} ${it.from_step}`;
+  return { step: it.step, deed, t: hex_word(it.t), place: it.line ? { ...place_of(it.source), line: it.line } : null, key: it.line ? `${it.line}:${it.column}` : null };
+}
+
+const is_refused = it => !!it.refused;
+const is_out_of_memory = it => it.refused === OUT_OF_MEMORY.refused;
 // Of the answer of `effects` each node's first step that would go; of that of `save` how many steps each node makes.
-const firsts_of = ([, ...rows]) => Object.fromEntries(rows.map(row => row.split(" ")).map(([name, step]) => [name, +step]));
-function made_of(rows) { const counts = {}; for (const row of rows) { const name = row.slice(5); counts[name] = (counts[name] || 0) + 1; } return counts; }
-// What an image begins a session with; and the nodes that it names.
-const READY = "ready\n";
-const nodes_named = image => { const names = new Set(Array.from(image.matchAll(/^node (\d{3})$/gm), it => it[1])); return NAMES.filter(it => names.has(it)); };
-
-// How many lines an answer has that begins at a row. Those of `at` are steps of one node, one after another.
-function lines_in(command, rows, at) {
-  const counted = COUNTED.exec(rows[at] || ""), steps = /^at (\d{3} )/.exec(command);
-  let count = 1;
-  if (steps) for (let k = parseInt((rows[at] || "").slice(4)); at + count < rows.length && rows[at + count].startsWith(`${steps[1]}${k + count} `) && AT.test(rows[at + count]);) count++;
-  return counted ? 1 + +counted[1] : count;
-}
+const firsts_of = ({ rows = [] }) => Object.fromEntries(rows.map(it => [it.node, it.first_step]));
+function made_of({ text = "" }) { const counts = {}; for (const line of text.split("\n")) { const name = line.slice(5); counts[name] = (counts[name] || 0) + 1; } return counts; }
+// The nodes that an image names.
+const nodes_named = image => { const lines = new Set(image.split("\n")); return NAMES.filter(it => lines.has("node " + it)); };
 
 // The answer of `effects` as a sentence.
-function told_effects([head, ...rows]) {
-  const [, events, nodes] = head.split(" "), counted = (count, what) => `${count} ${what}${count === "1" ? "" : "s"}`, firsts = rows.slice(0, 6).map(row => row.replace(/ \d+(?: \\ .*)?$/s, "")).join(", ");
-  return head.startsWith("effects ") ? `${counted(events, "event")} of ${counted(nodes, "node")} gone, from ${firsts}${rows.length > 6 ? " .." : ""}` : head;
+function told_effects(it) {
+  if (!it.rows) return text_of_change(it);
+  const counted = (count, what) => `${count} ${what}${count === 1 ? "" : "s"}`, firsts = it.rows.slice(0, 6).map(row => `${row.node} ${row.first_step}`).join(", ");
+  return `${counted(it.events, "event")} of ${counted(it.nodes, "node")} gone, from ${firsts}${it.rows.length > 6 ? " .." : ""}`;
 }
 
-// The line of a fault, as `ga144: line 14: ..` names it of source, and `no 12 line line 14` of an image.
-function line_told(told) { const found = /^ga144: line (\d+):/.exec(told) || /^no \d+ \w+ line (\d+)$/.exec(told); return found ? +found[1] : 0; }
-
-// What is no place where nodes or steps are named; and what is before, and after, the part that is one.
-const BARE = /^(?:it can|stopped|at least|\d+ states?|removed|kept|made|quiet|full|memory|spent|chain|effects|races|independent|none|no|more|idle|looks|every|ready)\b/;
-const BARE_COMMANDS = /^(?:chip|dump|help|count)\b/;
-function named_part(command, line) {
-  const before = /^reached \d+ (?:by \d+ )?/.exec(line) || (/^words\b/.test(command) && /^\d+ /.exec(line)) || (/^whence\b/.test(command) && /^(?:\d|\d+>\d+) /.exec(line)), after = /^effects\b/.test(command) ? / \d+$/.exec(line) : /^stuck\b/.test(line) && / and \d+ idle$/.exec(line);
-  return [before ? before[0].length : 0, after ? after.index : line.length];
+// The line of a fault, as `ga144: line 14: ..` names it of source, and `no 12 line line 14` of an image; messages have no objects.
+function line_told(told) {
+  const words = told.split(" "), at = words[0] === "ga144:" ? 1 : words[0] === "no" ? 3 : words.length;
+  return words[at] === "line" ? parseInt(words[at + 1]) : 0;
 }
 
-// An answer's line in parts: what leads somewhere has `step`, `node`, `kind`, or `line` and `column`.
-function parts_of(command, line) {
-  const fault = /^(ga144: )(line (\d+))(:.*)$/s.exec(line) || /^(no \d+ \w+ )(line (\d+))()$/.exec(line);
-  if (fault) return [{ text: fault[1] }, { text: fault[2], line: +fault[3], column: 0 }, { text: fault[4] }];
-  const kind = /^check\b/.test(command) && /^(.*: )(--session (\d+))$/.exec(line);
-  if (kind) return [...parts_of(command, kind[1]), { text: kind[2], kind: +kind[3] }];
-  if (BARE.test(line) || BARE_COMMANDS.test(command)) return [{ text: line }];
-  const cut = line.indexOf(" \\ "), own = cut < 0 ? line : line.slice(0, cut), place = cut < 0 ? null : place_of(line.slice(cut + 3)), parts = [];
-  const [from, upto] = named_part(command, own), nodes_alone = /^(?:trace|words|node|mem|step|stuck|ring|ended|ends|goes|  not) /.test(own);
-  let at = from;
-  if (from) parts.push({ text: own.slice(0, from) });
-  for (const it of own.slice(from, upto).matchAll(nodes_alone ? /(?<!\w)([0-7](?:0\d|1[0-7]))(?!\w)/g : /(?<!\w)([0-7](?:0\d|1[0-7]))(?: ([1-9]\d{0,9}))?(?!\w)/g)) {
-    parts.push({ text: own.slice(at, from + it.index) }, it[2] ? { text: it[0], step: [it[1], +it[2]] } : { text: it[0], node: it[1] });
-    at = from + it.index + it[0].length;
+// ---- links: what an object names, looked for in the text of its answer
+
+const step_named = (name, step) => name && step ? [{ text: `${name} ${step}`, step: [name, step] }] : [];
+const node_named = name => name ? [{ text: name, node: name }] : [];
+
+// The steps, and the nodes, that a row names or has from its object, and the place of its source.
+function names_in(row, it = row) {
+  const steps = [[row.node || it.node, row.step || row.first_step], [row.from || it.from, row.from_step], [row.to || it.to, row.to_step], [row.neighbour, row.neighbour_step], [row.rewind_node, row.rewind_step]];
+  const nodes = [row.node, row.from, row.to, row.other_from, row.then_node, row.right, row.down, row.left, row.up];
+  return [...steps.flatMap(([name, step]) => step_named(name, step)), ...nodes.flatMap(node_named), ...source_named(row.source)];
+}
+
+// The value of a row of `because`, whose fields have a name of their own there.
+const value_tested = row => Object.fromEntries(Object.entries(row).filter(([name]) => name.startsWith("source_")).map(([name, value]) => [name.slice(7), value]));
+
+// Commands of which the first line is of the object itself, and names nodes or steps.
+const OWN_LINE = ["step", "run", "node", "mem", "trace", "words", "whence"];
+
+// What a line of an answer may name.
+function names_of(it, at, lines) {
+  if (!it || it.refused) return [];
+  if (it.command === "save") return node_named(lines[at].slice(5));
+  // Each of these lines names nodes of any row; its last number counts nodes.
+  if (it.command === "who") return [{ text: `idle ${it.idle}` }, { text: `and ${it.deadlocked_idle} idle` }, ...Array.from(new Set(it.rows.flatMap(row => [row.node, row.right, row.down, row.left, row.up]))).flatMap(node_named)];
+  if (it.command === "because") { const row = it.rows[at >> 1]; return !row ? [] : at % 2 ? names_in(value_tested(row)) : names_in(row, it); }
+  const { rows = [] } = it, is_rows = ["at", "writes"].includes(it.command), before = it.command === "whence" ? lines.length - rows.length - (it.more_from ? 1 : 0) : is_rows ? 0 : 1, row = rows[at - before];
+  return row ? names_in(row, it) : at < before && OWN_LINE.includes(it.command) ? names_in(it) : [];
+}
+
+// The text of the source at the end of a line: its place is a link, the rest is dim.
+function source_named(source) {
+  const place = place_of(source), mark = " \\ ";
+  return place ? [{ text: mark + source, parts: [{ text: mark, dim: true }, { text: place.front, line: place.line, column: place.column }, { text: source.slice(place.front.length), dim: true }] }] : [];
+}
+
+// A line in parts: the names that are found in it, the first and longest first, and the text between. What leads somewhere has `step`, `node`,
+// `kind`, or `line` and `column`.
+function parts_named(line, names) {
+  const parts = [], apart = it => it === undefined || " ,:".includes(it);
+  const longest = names.filter(it => it.text).sort((one, other) => other.text.length - one.text.length);
+  let from = 0;
+  for (let at = 0; at < line.length; at++) {
+    if (!apart(line[at - 1]) && line[at] !== " ") continue;
+    const found = longest.find(it => line.startsWith(it.text, at) && (it.parts || apart(line[at - 1])) && apart(line[at + it.text.length]));
+    if (!found) continue;
+    const { parts: inside, ...link } = found, upto = at + found.text.length;
+    if (inside || Object.keys(link).length > 1) { parts.push({ text: line.slice(from, at) }, ...(inside || [link])); from = upto; }
+    at = upto - 1;
   }
-  parts.push({ text: own.slice(at) });
-  if (cut >= 0) {
-    const text = line.slice(cut + 3), upto = place ? text.length - place.text.length - 2 : 0;
-    parts.push({ text: " \\ ", dim: true }, ...(place ? [{ text: text.slice(0, upto), line: place.line, column: place.column }] : []), { text: text.slice(upto), dim: true });
-  }
-  return parts.filter(it => it.text);
+  return [...parts, { text: line.slice(from) }].filter(it => it.text);
 }
 
-// Of each node each cell that the answer of `list` has: its label, how many cells it is after that, and the source's line.
+// A line of `check`: its session, and its nodes or steps. Objects of it would take a second search, so these are found in the text alone.
+function check_parts(line) {
+  const mark = "--session ", at = line.lastIndexOf(mark), own = at < 0 ? line : line.slice(0, at), has_steps = ["  decided", "line "].some(it => line.startsWith(it));
+  const found = own.includes(" state") ? [] : own.matchAll(has_steps ? /(?<!\w)([0-7](?:0\d|1[0-7]))(?: ([1-9]\d{0,9}))?(?!\w)/g : /(?<!\w)([0-7](?:0\d|1[0-7]))(?!\w)/g);
+  const names = Array.from(found, ([, name, step]) => step ? step_named(name, +step) : node_named(name)).flat();
+  return [...parts_named(own, names), ...(at < 0 ? [] : [{ text: line.slice(at), kind: +line.slice(at + mark.length) }])];
+}
+
+// A message's line, of which the line of the text is a link.
+function message_parts(line) {
+  return !line_told(line) ? [{ text: line }] : parts_named(line, [{ text: `line ${line_told(line)}`, line: line_told(line), column: 0 }]);
+}
+
+// Of each node each cell that the answer of `list` has, which has no objects: its label, how many cells it is after that, and the source's line.
 function listing_of(text) {
   const nodes = {};
   let cells = null, label = "", behind = 0, line = "";
@@ -138,7 +183,7 @@ function listing_of(text) {
   return nodes;
 }
 
-// The answer of `help`: each command's form and effect, and the remarks between.
+// The answer of `help`, which is text in its object too: each command's form and effect, and the remarks between.
 function help_of(rows) {
   const commands = [], remarks = [];
   let last = null;

@@ -3,15 +3,15 @@
 // What a node does, in a word.
 function doing(node) {
   if (node.stop) return "■ " + node.stop;
-  if (node.wait) return { read: "?", write: "!", fetch: "@" }[node.wait] + node.set.replace(/-/g, "");
+  if (node.sides.length) return { reads: "?", writes: "!", fetches: "@" }[node.does] + node.sides.map(it => it[0]).join("");
   return "▶ " + (node.slot === 4 ? "fetch" : (decode(parseInt(node.i, 16)).names[node.slot] || "fetch"));
 }
 
 const STOPS = { 1: "writes to several ports", 2: "an address that names nothing", 3: "by the image" };
 function told_doing(node) {
-  const ports = (node.set || "").split("").map(it => ({ r: "right", d: "down", l: "left", u: "up" })[it]).filter(it => it).join(" or ");
+  const ports = node.sides.join(" or ");
   if (node.stop) return `stopped, ${node.stop}: ${STOPS[node.stop] || ""}`;
-  if (node.wait) return { read: `waits to read ${ports}`, write: `waits to write ${ports}`, fetch: `waits for code ${ports.length > 20 ? "on all sides" : ports}` }[node.wait];
+  if (ports) return { reads: `waits to read ${ports}`, writes: `waits to write ${ports}`, fetches: `waits for code ${ports.length > 20 ? "on all sides" : ports}` }[node.does];
   return "runs, next " + doing(node).slice(2);
 }
 
@@ -47,13 +47,13 @@ class ChipPane {
     if (!this.box.childNodes.length) this.build();
     NAMES.forEach((name, i) => {
       const node = nodes[i], cell = find("n" + name), steps = page.session.steps[name] || 0, active = page.is_active(name);
-      const kind = ["cell", active && "active", node.stop && "stop", name === page.selected && "selected", goes.has(name) ? "goes" : past.has(name) && "past"].filter(it => it).join(" ");
+      const kind = ["cell", active && "active", node.stop && "stop", name === page.selected && "selected", goes.includes(name) ? "goes" : past.includes(name) && "past"].filter(it => it).join(" ");
       const title = `node ${name}: ${told_doing(node)}, ${steps} step${steps === 1 ? "" : "s"}\nP ${node.p} A ${node.a} B ${node.b} T ${node.d[0]} S ${node.d[1]} R ${node.r[0]}`;
       // What is as it was needs no drawing.
       if (cell.className === kind && cell.title === title) return;
       cell.className = kind; cell.title = title;
       cell.innerHTML = active ? `<span class="name">${name}</span><span class="more">${steps || ""}</span><span class="what">${safe(doing(node)).replace(" ", '<span class="next"> ')}</span>` : "";
-      if (node.wait && active) for (const side of "rdlu") if (node.set.includes(side)) { const bar = element("i", `side ${compass(name, side)}${node.wait === "write" ? " write" : ""}`); cell.append(bar); }
+      if (active) for (const side of node.sides) cell.append(element("i", `side ${compass(name, side[0])}${node.does === "writes" ? " write" : ""}`));
     });
   }
 }
@@ -78,7 +78,7 @@ class NodePane {
     this.draw_memory(name, cells, loaded, pointer);
     set_html(find("node"), `<h2>Node ${name} <span class="state">${safe(told_doing(node))}</span><span class="count">${steps} step${steps === 1 ? "" : "s"}</span></h2>
       <div class="registers">${value("P", node.p)}${value("A", node.a)}${value("B", node.b)}${value("io", node.io)}${value("T", `<b>${node.d[0]}</b>`)}${value("S", node.d[1])}${value("R", node.r[0])}${value("I", node.i)}</div>
-      <div class="stacks"><span class="dim">slots</span><span>${slots}<span class="dim">${node.carry === "0" ? "" : " carry"}</span></span><span class="dim">source</span><span class="source">${here ? `<b>${safe(here.label)}</b> ${safe(here.line)}` : "none"}</span>
+      <div class="stacks"><span class="dim">slots</span><span>${slots}<span class="dim">${node.carry === 0 ? "" : " carry"}</span></span><span class="dim">source</span><span class="source">${here ? `<b>${safe(here.label)}</b> ${safe(here.line)}` : "none"}</span>
       <span class="dim">data</span>${words(node.d.slice(2))}<span class="dim">return</span>${words(node.r.slice(1))}<span class="dim">then</span><span class="then">${then ? `${safe(doing(then))} P ${then.p} T ${then.d[0]} S ${then.d[1]} R ${then.r[0]}` : ""}</span></div>`);
   }
 

@@ -33,12 +33,16 @@ class Core {
     return count < 0 ? null : { bytes: new Uint8Array(buffer, Number(core.answer()), count), more: more(core) };
   }
 
-  // What a session of `ga144 explore` answers. Null too where memory was wanting for the answers.
-  answer(text, limit) {
-    const said = this.question(bytes_of(text), (core, count) => core.run(count, limit), core => core.ended());
+  // What a session of `ga144 explore` answers, as text to be shown; and as lines of objects, as `explore --json`. Null too where memory was
+  // wanting for the answers.
+  answer(text, limit) { return this.session(text, (core, count) => core.run(count, limit), "no 33 input\n"); }
+  lines(text, limit) { return this.session(text, (core, count) => core.run_json(count, limit), '"refused":33,"why":"input"}\n'); }
+
+  session(text, ask, too_long) {
+    const said = this.question(bytes_of(text), ask, core => core.ended());
     if (!said) return null;
     const told = text_of(said.bytes);
-    return said.more !== CUT || told.endsWith("no 33 input\n") ? told : null;
+    return said.more !== CUT || told.endsWith(too_long) ? told : null;
   }
 
   // The nodes that made the events kept at a session's end, in their order. Null if there are none, or if memory ran out.

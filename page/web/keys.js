@@ -48,7 +48,7 @@ function acts_of(page) {
     ",": () => page.along(-1), ".": () => page.along(1), PageUp: () => page.along(-20), PageDown: () => page.along(20), Home: () => page.along(-1e9), End: () => page.along(1e9), p: () => page.across(), j: () => page.next_of_word(),
     ArrowLeft: () => page.beside(-1, 0), ArrowRight: () => page.beside(1, 0), ArrowUp: () => page.beside(0, 1), ArrowDown: () => page.beside(0, -1),
     "+": look(() => page.picture.zoom(.6)), "-": look(() => page.picture.zoom(1.6)), "0": look(() => page.picture.fit()), "[": look(() => page.picture.move(-.4)), "]": look(() => page.picture.move(.4)),
-    e: () => find("examples").focus(), a: () => find("idle").click(), z: () => find("races").click(), n: () => find("most").focus(), "/": () => find("line").focus(), l: theme, "?": () => show_help((page.session.ask(["help"]) || [[NO_MEMORY]])[0]),
+    e: () => find("examples").focus(), a: () => find("idle").click(), z: () => find("races").click(), n: () => find("most").focus(), "/": () => find("line").focus(), l: theme, "?": () => show_help(page.session.answer_text("help")),
     o: () => find("file").click(), i: () => page.edit(find("editor").hidden), ...acts_on_text(page),
   };
 }

@@ -49,9 +49,9 @@ class Page {
 
   refuse_with(what, why) { this.say(what, why.split("\n")); this.note(why.split("\n")[0]); }
   note(text) { find("status").textContent = find("status").title = text; }
-  say(asked, answer) { this.log.say(asked, answer); }
+  say(asked, answer, told = null) { this.log.say(asked, answer, told); }
 
-  forget() { this.chosen = null; this.race = null; this.marks = null; this.said = null; this.then = null; this.touched = [new Set(), new Set(), new Set()]; this.goes = 0; find("wordnote").textContent = ""; }
+  forget() { this.chosen = null; this.race = null; this.marks = null; this.said = null; this.then = null; this.touched = [[], [], []]; this.goes = 0; find("wordnote").textContent = ""; }
   is_active(name) { return this.working.includes(name) || this.drawn.includes(name); }
 
   // Gives one command as a person does. Each that changes the chip can be undone to `before`, and what was undone isn't made again then.
@@ -59,24 +59,26 @@ class Page {
     if (line === "redo") return this.redo();
     if (line === "check") return this.check();
     if (!is_change(line)) {
-      const answer = (this.session.ask([line]) || [[NO_MEMORY]])[0];
-      if (line === "help") show_help(answer, "commands"); else this.say(line, answer);
+      const told = this.session.ask([line]), answer = told ? this.session.answer_text(line) : [NO_MEMORY];
+      if (line === "help") show_help(answer, "commands"); else this.say(line, answer, told ? told[0] : null);
       return answer;
     }
-    const before = /^(back|rewind)\b/.test(line) ? this.session.now() : null, { chosen } = this;
-    const shown = [`at ${this.selected} last 40`, ...this.session.questions(this.selected)];
-    const { answers, more } = STEPS_ALONE.test(line) ? this.session.step([line], shown) : line.startsWith("rewind") ? this.session.rewind(line, shown) : { answers: this.session.obey([line]), more: null };
-    this.say(line, answers[0]);
-    if (!is_refused(answers[0][0])) this.undone = removed_by(answers[0][0]) ? [...this.undone.slice(1 - MOST_UNDONE), { before, chosen, selected: this.selected, count: removed_by(answers[0][0]) }] : made_by(answers[0][0]) || event_of(answers[0][0]) ? [] : this.undone;
-    const reached = line.startsWith("run") && event_reached(answers[0][0]);
-    if (reached) [[this.selected]] = reached.ends;
-    this.after(more && this.session.learn(1, this.selected, more));
-    return answers[0];
+    const before = /^(back|rewind)\b/.test(line) ? this.session.now() : null, { chosen } = this, { commands } = this.session;
+    const going = chosen && line === `rewind ${chosen.join(" ")}` ? this.touched[GOES] : NAMES, questions = [`at ${this.selected} last 40`, ...this.session.questions_after(line, this.selected, going)];
+    const { answer, line: given, is_cut, more = null } = this.session.change(line, questions);
+    const told = text_of_change(answer), answers = [...(told ? [told] : this.session.answer_text(given, commands)), ...(is_cut ? [NO_MEMORY] : [])];
+    this.say(line, answers, answer);
+    if (answer.removed) this.undone = [...this.undone.slice(1 - MOST_UNDONE), { before, chosen, selected: this.selected, count: answer.removed }];
+    else if (answer.events || answer.what) this.undone = [];
+    if (answer.end === "reached") [[this.selected]] = event_of(answer).ends;
+    if (more) this.session.learn(more);
+    this.after();
+    return answers;
   }
 
   // Draws the history and the chip as they are now, with a step that is chosen.
-  after(seen = null, chosen = null) {
-    this.arrange(seen);
+  after(chosen = null) {
+    this.arrange();
     if (this.picture.was_whole) this.picture.begin();
     this.picture.show(this.picture.deepest);
     if (!chosen || !this.session.event_at(chosen)) return this.draw();
@@ -84,9 +86,9 @@ class Page {
     this.show(chosen);
   }
 
-  arrange(seen = null) {
+  arrange() {
     this.forget();
-    this.seen = seen;
+    this.seen = null;
     this.drawn = NAMES.filter(n => this.session.steps[n] && (find("idle").checked || this.working.includes(n) || this.session.is_busy(n)));
     this.chip.arrange([...this.working, ...this.drawn.filter(n => this.session.is_busy(n))]);
     this.picture.set(this.session.events, this.drawn);
@@ -95,9 +97,10 @@ class Page {
 
   // The steps that could yield another word, where they are to be marked: asking takes long where much is kept.
   ask_races() {
-    const lines = find("races").checked ? this.session.races() : [];
-    if (!lines) this.say("races", [NO_MEMORY]);
-    this.race_lines = lines || []; this.races = this.race_lines.map(race_of).filter(it => it);
+    const none = { lines: [], races: [] }, found = find("races").checked ? this.session.races() : none;
+    if (!found) this.say("races", [NO_MEMORY]);
+    const { lines, races } = found || none;
+    this.race_lines = lines; this.races = races;
   }
 
   // A run in the order that is chosen: of a number of events, or up to a condition.
@@ -111,8 +114,8 @@ class Page {
   // One round: each node that the image names or the picture has makes at most one event.
   round() {
     const names = NAMES.filter(n => this.is_active(n));
-    const { answers } = this.session.step(names.map(n => "step " + n)), made = answers.filter(it => event_of(it[0])).length;
-    this.say("a round", [`made ${made}`, ...new Set(answers.map(it => it[0]).filter(it => it && is_out_of_memory(it)))]);
+    const { answers } = this.session.step(names.map(n => "step " + n)), made = answers.filter(it => it.what).length;
+    this.say("a round", [`made ${made}`, ...new Set(answers.filter(is_out_of_memory).map(text_of_change))]);
     if (made) this.undone = [];
     this.after();
   }
@@ -157,14 +160,13 @@ class Page {
     if (!event) return;
     const earlier = this.chosen, [name, k] = step;
     this.trace.set(name, this.session.steps[name], k);
-    const marks = this.session.marks(step), seen = marks && this.session.look(name, step, this.trace.seen());
+    const marks = this.session.marks(step), marked = marks && this.sums_of(marks), seen = marks && this.session.preview(name, step, marked.touched[GOES], this.trace.seen());
     this.forget();
     if (name !== this.selected) this.before = this.selected;
     this.selected = name;
     this.earlier = earlier;
     if (!seen) { this.note(NO_MEMORY); return this.draw(); }
-    this.mark(marks);
-    Object.assign(this, { chosen: step, event, seen, said: seen.said, then: seen.then, takes: seen.effects });
+    Object.assign(this, marked, { chosen: step, event, seen, said: seen.said, then: seen.then, takes: seen.effects });
     this.picture.show(this.picture.xs[event.place]);
     this.draw();
   }
@@ -205,17 +207,16 @@ class Page {
     this.forget();
     this.selected = name;
     if (!outcome) { this.note(NO_MEMORY); return this.draw(); }
-    this.mark(marks);
-    Object.assign(this, { race, chosen: race.back, event: this.session.event_at(race.back), said: outcome.said, then: outcome.then, takes: outcome.effects, makes: outcome.made });
+    Object.assign(this, this.sums_of(marks), { race, chosen: race.back, event: this.session.event_at(race.back), said: outcome.said, then: outcome.then, takes: outcome.effects, makes: outcome.made });
     this.draw();
   }
 
-  mark(marks) {
+  // The relation of each event, by which nodes have events of each, and how many would go.
+  sums_of(marks) {
     const { first, second } = this.session.numbers, touched = [0, 1, 2].map(() => new Uint8Array(NODES.length + 1));
     let goes = 0;
     for (let at = 0; at < marks.length; at++) { const it = touched[marks[at]]; it[first[at]] = it[second[at]] = 1; if (marks[at] === GOES) goes++; }
-    this.touched = touched.map(it => new Set(NAMES.filter((_, n) => it[n])));
-    Object.assign(this, { marks, goes });
+    return { marks, goes, touched: touched.map(it => NAMES.filter((_, n) => it[n])) };
   }
 
   // Takes the chosen step back, or makes the other outcome of a race; either can be undone by `redo`.
@@ -233,7 +234,7 @@ class Page {
     this.session.restore(last.before);
     this.selected = last.selected;
     this.say("redo", [`made ${last.count} again`]);
-    this.after(null, last.chosen);
+    this.after(last.chosen);
     return [];
   }
 
@@ -253,15 +254,15 @@ class Page {
 
   // The rows of steps that are seen and not known yet.
   ask_rows(steps) {
-    const lines = this.session.places.questions(steps), answers = lines.length ? this.session.ask([...lines, "count"], this.session.named) : null;
-    if (answers) this.session.places.learn(answers.slice(0, lines.length));
+    const lines = this.session.places.questions(steps), answers = lines.length ? this.session.ask(lines) : null;
+    if (answers) this.session.places.learn(answers);
   }
 
   // What is drawn. Sizes and places are read before anything is written: reading one after that lays the page out once more.
   draw() {
     const name = this.selected, chosen = this.chosen && this.chosen[0] === name ? this.chosen[1] : 0;
     this.trace.set(name, this.session.steps[name] || 0, chosen);
-    if (!this.seen || this.seen.name !== name) this.seen = this.session.look(name, null, this.trace.seen()) || this.seen;
+    if (!this.seen || this.seen.name !== name) this.seen = this.session.look(name, this.trace.seen()) || this.seen;
     if (!this.seen) { this.note(NO_MEMORY); return; }
     this.ask_rows(this.trace.seen());
     this.mark_word(name, chosen);

@@ -71,7 +71,7 @@ class TracePane {
     row.dataset.k = k;
     row.append(element("span", "mark", " ◆×"[mark]), element("span", "k", k), element("span", "deed", told ? told.deed : event.label), element("span", "t", told ? told.t : ""));
     row.append(element("span", "source", place ? `${place.line} ${word}` : word));
-    row.title = `${event.text}${told ? `, then T ${told.t}` : ""}${place ? `\n${hex(place.cell, 3)} ${place.label} ${place.line}: ${place.text.replace(/ ?\\ \.+$/, "")}` : ""}`;
+    row.title = `${event.text}${told ? `, then T ${told.t}` : ""}${place ? `\n${hex(place.cell, 3)} ${place.label} ${place.line}: ${page.source.text.rest(key)}` : ""}`;
     return row;
   }
 }
@@ -83,10 +83,11 @@ class Log {
     this.box.onclick = event => { if (event.target.dataset.go) page.follow(JSON.parse(event.target.dataset.go)); };
   }
   clear() { this.box.textContent = ""; }
-  say(asked, answer) {
-    const entry = element("div");
+  // The lines of an answer, and its object, or null.
+  say(asked, answer, told) {
+    const entry = element("div"), parts = (line, at) => told ? parts_named(line, names_of(told, at, answer)) : asked === "check" ? check_parts(line) : message_parts(line);
     entry.append(element("b", "", `> ${asked}`), "\n");
-    for (const line of answer.slice(0, 200)) entry.append(...parts_of(asked, line).map(it => this.part(it)), "\n");
+    answer.slice(0, 200).forEach((line, at) => entry.append(...parts(line, at).map(it => this.part(it)), "\n"));
     if (answer.length > 200) entry.append(element("span", "dim", `.. and ${answer.length - 200} more lines`), "\n");
     this.box.append(entry);
     while (this.box.childNodes.length > 400) this.box.firstChild.remove();

@@ -35,11 +35,11 @@ class Places {
 
   learn(answers) {
     for (const answer of answers) {
-      const rows = answer.map(at_of).filter(it => it);
+      const { node, rows: found = [] } = answer, rows = found.map(it => row_of(node, it));
       if (!rows.length) continue;
-      const known = this.rows[rows[0].name] = this.rows[rows[0].name] || new Map();
-      if (!this.session.is_source) this.add_slots(rows[0].name, rows);
-      for (const it of rows) { if (it.place && it.place.column) it.key = `${it.place.line}:${it.place.column}`; known.set(it.step, it); }
+      const known = this.rows[node] = this.rows[node] || new Map();
+      if (!this.session.is_source) this.add_slots(node, rows);
+      for (const it of rows) known.set(it.step, it);
     }
   }
 
@@ -81,18 +81,17 @@ class Places {
 
   // The key of each slot of each cell that the node's steps were made in, by eight times the cell and the slot.
   keys(name, { cells, slots }) {
-    const { session } = this, firsts = [], keys = [], texts = [], rows = [];
+    const { session } = this, firsts = [], keys = [], texts = [];
     for (let k = 1; k < cells.length; k++) { const id = cells[k] * 8 + slots[k]; if (cells[k] >= 0 && slots[k] >= 0 && !firsts[id]) firsts[id] = k; }
     const found = firsts.map((k, id) => [id, k]).filter(it => it).sort(([, one], [, other]) => one - other);
     if (!session.is_source) { for (const [id] of found) keys[id] = `${name} ${id >> 3} ${id & 7}`; return keys; }
     let made = 0;
-    for (const [id, k] of found) {
+    for (const [, k] of found) {
       for (const { place } = session.event_at([name, k]); made <= place; made++) texts.push("step " + session.events[made].ends[0][0]);
       texts.push(`at ${name} last 0`);
-      rows.push([id, made + rows.length + 1]);
     }
-    const answers = (session.core.answer(session.named + lines_of(texts), session.limit) || "").split("\n");
-    for (const [id, row] of rows) { const it = at_of(answers[row] || ""); if (it && it.place && it.place.column) keys[id] = `${it.place.line}:${it.place.column}`; }
+    const answers = objects_of(session.core.lines(session.load + lines_of(texts), session.limit) || "").filter(it => it.command === "at");
+    answers.forEach(({ rows: [row] = [] }, i) => { if (row) keys[found[i][0]] = row_of(name, row).key; });
     return keys;
   }
 

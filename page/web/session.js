@@ -1,12 +1,13 @@
 // The session as the page asks it. Nothing here decides what the chip does or what depends on what: each is an answer.
 // How an event relates to the chosen step: it leads there, or would go with it.
 const PAST = 1, GOES = 2;
-// Words are named of a source up to this length; of a longer one lines.
-const MOST_NAMED = 1000000;
 // Whether a line changes the chip, by the class of its command.
 const is_change = line => CHANGES.includes(line.split(" ")[0]);
 // Lines that make or undo one event each: several are one question, and what each did is read off its answer.
 const STEPS_ALONE = /^step\b|^back$/;
+
+// What is asked besides, so that there is memory for what is asked next.
+const RESERVE = NODES.slice(0, 36);
 
 // A run of the same order with a number of events.
 const bounded = (line, count) => `${/^run(?: greedy| random \d+)?/.exec(line)[0]} ${count}`;
@@ -29,10 +30,9 @@ class Session {
       listing = listing_of(this.core.list(load));
       if (!END.test(load)) load += "end\n";
     }
-    const said = this.core.answer(image, this.limit);
-    if (said !== READY) return said === null ? NO_MEMORY : said.trim() || "no image";
-    const long = source && load.length < MOST_NAMED ? lengthened(load) : load, named = long !== load && this.core.assemble(long).image === image ? long : load;
-    Object.assign(this, { load, named, image, told: told.trim(), listing, is_source: source, commands: "", is_plain: true, said, events: [], steps: {}, traces: {}, numbered: null, loaded: {} });
+    const begun = this.core.answer(image, this.limit);
+    if (begun !== "ready\n") return begun === null ? NO_MEMORY : begun.trim() || "no image";
+    Object.assign(this, { load, image, told: told.trim(), listing, is_source: source, commands: "", is_plain: true, said: READY, events: [], steps: {}, traces: {}, numbered: null, loaded: {}, nodes: new Map(), cells: new Map(), counts: null });
     this.places = new Places(this);
     return null;
   }
@@ -42,37 +42,46 @@ class Session {
   get text() { return this.load + this.commands; }
   get script() { return this.image + (this.is_plain ? this.commands : lines_of(saved(this.events))); }
 
-  // Asks on a second run of the session; with `load` on the same program as a text with other remarks. The last answer has all lines
-  // that are left. Null if memory ran out.
-  ask(lines, load = this.load) {
-    const all = this.core.answer(load + this.commands + lines_of(lines), this.limit);
-    if (all === null || !all.startsWith(this.said)) return null;
-    const rows = all.slice(this.said.length).split("\n");
-    rows.pop();
-    let at = 0;
-    return lines.map((line, i) => rows.slice(at, at += i + 1 === lines.length ? rows.length : lines_in(line, rows, at)));
+  // The objects of lines, on a second run of the session. Null if memory ran out, or the session became too long; of `quit` alone none.
+  ask(lines) {
+    const all = this.core.lines(this.load + this.commands + lines_of(lines), this.limit), found = all !== null && all.startsWith(this.said) ? objects_of(all.slice(this.said.length)) : [];
+    return found.length === lines.length || (all && lines[0] === "quit") ? found : null;
   }
 
-  // Gives commands that make or remove events, and returns the answer of each.
+  // The answer to a line or lines as text; after these commands, of which each has one line.
+  answer_text(line, commands = this.commands) {
+    const all = this.core.answer(this.load + commands + line + "\n", this.limit);
+    return all === null ? [NO_MEMORY] : all.split("\n").slice(commands.split("\n").length, -1);
+  }
+
+  // Gives commands that make or remove events.
   obey(lines) {
-    let answers = [], steps = [];
+    let steps = [];
     for (const line of [...lines, null]) {
       if (line && STEPS_ALONE.test(line)) { steps.push(line); continue; }
-      if (steps.length) { answers = answers.concat(this.step(steps, this.questions("000")).answers); steps = []; }
-      if (line) answers.push(line.startsWith("run") ? this.run(line) : line.startsWith("back") ? this.back_until(line) : this.rewind(line).answers[0]);
+      if (steps.length) { this.step(steps); steps = []; }
+      if (line) this.change(line);
     }
-    return answers;
+  }
+
+  // Gives one of them. Returns its answer, the line that was given at last, with fewer events where memory ended, whether it did, and the
+  // answers to the queries after a step or a rollback.
+  change(line, questions = []) {
+    if (line.startsWith("run")) return this.run(line);
+    if (line.startsWith("back ")) return { answer: this.back_until(line), line };
+    const { answers: [answer], more } = STEPS_ALONE.test(line) ? this.step([line], questions) : this.rewind(line, questions);
+    return { answer, line, more };
   }
 
   // Steps and undos together. `more` has the answers to the queries after them; without memory for these, and for some
   // more after a step, nothing is kept: so later queries and undos have memory.
   step(lines, questions = []) {
-    const reserve = lines.some(it => it.startsWith("step")) ? NODES : [], all = this.ask([...lines, ...questions, ...reserve], this.named), kept = [], said = [];
-    if (!all) return { answers: lines.map(() => [NO_MEMORY]), more: null };
+    const reserve = lines.some(it => it.startsWith("step")) ? RESERVE : [], all = this.ask([...lines, ...questions, ...reserve]), kept = [], said = [];
+    if (!all) return { answers: lines.map(() => OUT_OF_MEMORY), more: null };
     lines.forEach((line, i) => {
-      const [told = ""] = all[i], event = event_of(told);
-      if (event) this.keep(event); else if (removed_by(told)) this.drop(); else return;
-      kept.push(line); said.push(told);
+      const event = event_of(all[i]);
+      if (event) this.keep(event); else if (all[i].removed) this.drop(); else return;
+      kept.push(line); said.push(all[i]);
     });
     this.record(kept, said);
     return { answers: all.slice(0, lines.length), more: all.slice(lines.length, lines.length + questions.length) };
@@ -81,46 +90,49 @@ class Session {
   // A run. Its events are those that steps of the nodes make that the core names. Where there is no memory to ask, half as many
   // are made.
   run(line) {
-    const [[told = NO_MEMORY]] = this.ask([line]) || [[]], made = made_by(told), ended = is_cut_run(told);
-    if (!made) return [told];
+    const [answer] = this.ask([line]) || [OUT_OF_MEMORY], { events: made } = answer, ended = answer.end === "memory";
+    if (!made) return { answer, line };
     const kept = ended ? bounded(line, made) : line, nodes = this.core.kept(this.load + this.commands + lines_of([kept]), this.limit);
-    const steps = nodes && Array.from(nodes.subarray(this.events.length), n => "step " + NAMES[n]), answers = steps && this.ask([...steps, ...this.questions("000"), ...NODES]);
-    const events = (answers || []).slice(0, made).map(([it]) => event_of(it));
-    if (!answers || steps.length !== made || events.includes(null)) return made > 1 ? [...this.run(bounded(line, made >> 1)), NO_MEMORY] : [NO_MEMORY];
+    const steps = nodes ? Array.from(nodes.subarray(this.events.length), n => "step " + NAMES[n]) : [];
+    const events = this.answer_text([...steps, ...NODES, ...NODES].join("\n")).slice(0, made).map(event_told);
+    if (steps.length !== made || events.length !== made || events.includes(null)) return made > 1 ? { ...this.run(bounded(line, made >> 1)), is_cut: true } : { answer: OUT_OF_MEMORY, line };
     for (const it of events) this.keep(it);
-    this.record([kept], [ended ? "made " + made : told]);
+    this.record([kept], [ended ? { command: "run", events: made, end: "made" } : answer]);
     this.is_plain = false;
-    return ended ? [told, NO_MEMORY] : [told];
+    return { answer, line, is_cut: ended };
   }
 
   // A rollback. `effects` names what it removes. `more` has the answers to the queries after it, if there is memory for them.
   rewind(line, questions = []) {
-    const all = this.ask([line.replace("rewind", "effects"), line, ...questions], this.named);
+    const all = this.ask([line.replace("rewind", "effects"), line, ...questions]);
     if (!all && questions.length) return this.rewind(line);
-    const [told = NO_MEMORY] = all ? all[1] : [], firsts = firsts_of(all ? all[0] : []), first = NAMES.map(n => firsts[n]);
+    const [effects, told] = all || [{}, OUT_OF_MEMORY], firsts = firsts_of(effects), first = NAMES.map(n => firsts[n]);
     const answer = this.leave(line, told, ({ one, ends }) => !(ends[0][1] >= first[one]));
-    return { answers: [answer], more: questions.length && removed_by(answer[0]) ? all.slice(2) : null };
+    return { answers: [answer], more: questions.length && answer.removed ? all.slice(2) : null };
   }
 
   // `back until`, of all nodes or of one. `save` names what is left: of each node the first of the events that it makes.
   back_until(line) {
-    const all = this.ask([line, "save"]), [told = NO_MEMORY] = all ? all[0] : [], counts = made_of(all ? all[1] : []);
+    const [told, rest] = this.ask([line, "save"]) || [OUT_OF_MEMORY, {}], counts = made_of(rest);
     const answer = this.leave(line, told, ({ ends: [[name]] }) => counts[name]-- > 0);
-    if (removed_by(answer[0])) this.is_plain = false;
+    if (answer.removed) this.is_plain = false;
     return answer;
   }
 
   // Keeps these events alone, where as many go as the answer says.
   leave(line, told, is_left) {
-    const removed = removed_by(told), left = removed && this.events.filter(is_left);
-    if (!removed) return [told];
-    if (this.events.length - left.length !== removed) return [NO_MEMORY];
+    if (!told.removed) return told;
+    const left = this.events.filter(is_left);
+    if (this.events.length - left.length !== told.removed) return OUT_OF_MEMORY;
     this.keep_all(left);
     this.record([line], [told]);
-    return [told];
+    return told;
   }
 
-  record(lines, said) { if (lines.length) this.places.forget(); this.commands += lines_of(lines); this.said += lines_of(said); }
+  // Commands with their objects, which are written as the core writes them.
+  record(lines, said) { if (lines.length) this.forget(); this.commands += lines_of(lines); this.said += lines_of(said.map(it => JSON.stringify(it))); }
+  // The history has changed.
+  forget() { this.places.forget(); this.counts = null; }
   // An event is kept with its place and the numbers of its nodes: of the one that makes it, and of the other of a pass, else NODES.length.
   keep(event) {
     const [[one], [other] = []] = event.ends;
@@ -140,7 +152,7 @@ class Session {
 
   // The session as it is now, and back to that: its text is what it was, so its history and its chip are too.
   now() { const { commands, said, is_plain, events } = this; return { commands, said, is_plain, events: events.slice() }; }
-  restore({ events, ...texts }) { Object.assign(this, texts); this.places.forget(); this.keep_all(events); }
+  restore({ events, ...texts }) { Object.assign(this, texts); this.forget(); this.keep_all(events); }
 
   // The numbers of the nodes of each kept event: the first one, which makes it, and the second one of a pass, else NODES.length. They
   // are kept until the history changes.
@@ -162,39 +174,74 @@ class Session {
     return this.core.shades(this.image, this.numbers.first, this.event_at(step).place);
   }
 
-  // What is drawn: all nodes, one node's cells, the counts; and with a step what its rollback would take, and the chip after that.
-  questions(name, step = null) { return [...NODES, ...cells_of(name), "count", ...(step ? [`effects ${step.join(" ")}`, `rewind ${step.join(" ")}`, ...NODES] : [])]; }
+  // What is drawn are all nodes, one node's cells and the counts. A node is as it was after its newest event, so what was answered for it
+  // then is known: these queries are long, and asked of nodes alone that changed.
+  newest(name) { return this.traces[name] && this.traces[name].at(-1) || null; }
+  is_known(known, name) { const it = known.get(name); return !!it && it.newest === this.newest(name); }
 
-  seen(name, answers) {
-    const nodes = list => list.map(it => node_of(it[0])), cells = answers.slice(144, 208).map(word_of);
-    const seen = { name, nodes: nodes(answers.slice(0, 144)), cells, loaded: this.cells_at_load([name])[name], count: answers[208][0] };
-    return answers[209] ? { ...seen, effects: answers[209], said: answers[210][0], then: nodes(answers.slice(211)) } : seen;
+  questions(name) { return [...NAMES.filter(n => !this.is_known(this.nodes, n)).map(n => "node " + n), ...(this.is_known(this.cells, name) ? [] : cells_of(name)), ...(this.counts ? [] : ["count"])]; }
+
+  // The same after a step, an undo, or a rollback of events of these nodes, with all nodes that it may change.
+  questions_after(line, name, going = NAMES) {
+    const [command, node] = line.split(" "), at = NUMBER[node], newest = this.events.at(-1), changed = command === "step" ? [at, at - 1, at + 1, at - 18, at + 18].map(it => NAMES[it]) : command === "back" && newest ? newest.ends.map(([n]) => n) : going;
+    return [...changed.filter(it => it).map(n => "node " + n), ...cells_of(name), "count"];
+  }
+
+  // Learns from answers of the session as it is now.
+  learn(answers) {
+    const cells = {};
+    this.places.learn(answers.filter(it => it.command === "at"));
+    for (const it of answers) {
+      if (it.command === "node") this.nodes.set(it.node, { newest: this.newest(it.node), told: node_of(it) });
+      else if (it.command === "mem") (cells[it.node] = cells[it.node] || []).push(it.word);
+      else if (it.command === "count") this.counts = text_of_count(it);
+    }
+    for (const name in cells) this.cells.set(name, { newest: this.newest(name), words: cells[name] });
+  }
+
+  // All nodes, with some of them as these objects have them.
+  nodes_with(answers) {
+    const told = Object.fromEntries(answers.map(it => [it.node, node_of(it)]));
+    return NAMES.map(n => told[n] || this.nodes.get(n).told);
+  }
+
+  // What is drawn, and with it the rows of the steps that are shown, where they aren't known. Null if memory ran out.
+  look(name, shown = null, more = []) {
+    const lines = [...(shown ? this.places.questions(shown) : []), ...this.questions(name)], answers = lines.length + more.length ? this.ask([...lines, ...more]) : [];
+    if (!answers) return null;
+    this.learn(answers.slice(0, lines.length));
+    return { name, nodes: this.nodes_with([]), cells: this.cells.get(name).words, loaded: this.cells_at_load([name])[name], count: this.counts, answers: answers.slice(lines.length) };
+  }
+
+  // The same, and what the rollback of a step would take, with the chip after that. Events of these nodes would go.
+  preview(name, step, going, shown) {
+    const seen = this.look(name, shown, [`effects ${step.join(" ")}`, `rewind ${step.join(" ")}`, ...going.map(n => "node " + n)]);
+    if (!seen) return null;
+    const [effects, removed, ...nodes] = seen.answers;
+    return { ...seen, effects, said: text_of_change(removed), then: this.nodes_with(nodes) };
   }
 
   // The words of these nodes' RAM as they were loaded.
   cells_at_load(names) {
     const wanted = names.filter(it => !this.loaded[it]);
     if (wanted.length) {
-      const words = (this.core.answer(this.image + wanted.map(it => lines_of(cells_of(it))).join(""), this.limit) || "").split("\n").slice(1).map(it => word_of([it]));
+      const words = objects_of(this.core.lines(this.image + wanted.map(it => lines_of(cells_of(it))).join(""), this.limit) || "").slice(1).map(it => it.word);
       wanted.forEach((it, i) => { this.loaded[it] = words.slice(64 * i, 64 * i + 64); });
     }
     return Object.fromEntries(names.map(it => [it, this.loaded[it]]));
   }
 
-  // With the answers the rows of the steps that are shown, where they aren't known.
-  look(name, step = null, shown = null) {
-    const rows = shown ? this.places.questions(shown) : [], answers = this.ask([...rows, ...this.questions(name, step)], this.named);
-    return answers && this.learn(rows.length, name, answers);
+  // The races, and the lines that show them, each race in the line of its place; null if memory ran out.
+  races() {
+    const [answer] = this.ask(["races"]) || [OUT_OF_MEMORY];
+    if (is_refused(answer)) return null;
+    const [, ...lines] = this.answer_text("races");
+    return lines.length < answer.rows.length ? null : { lines, races: answer.rows.map((it, at) => race_of(it, lines[at])) };
   }
-
-  learn(rows, name, answers) { this.places.learn(answers.slice(0, rows)); return this.seen(name, answers.slice(rows)); }
-
-  // The answer of `races`; null if memory ran out.
-  races() { const answer = (this.ask(["races"]) || [[NO_MEMORY]])[0]; return is_out_of_memory(answer[0]) ? null : answer.slice(1); }
 
   // The other outcome of such a step: what its rollback takes, what is made then, and the chip after that.
   outcome({ back, commands }) {
     const all = this.ask([`effects ${back.join(" ")}`, ...commands, ...NODES]);
-    return all && { effects: all[0], said: all[1][0], made: all[2][0], then: all.slice(3).map(it => node_of(it[0])) };
+    return all && { effects: all[0], said: text_of_change(all[1]), made: text_of_change(all[2]), then: all.slice(3).map(node_of) };
   }
 }

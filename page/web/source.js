@@ -15,17 +15,6 @@ function parted(text) {
 function is_source(text) { return !text.startsWith("ga144"); }
 
 const is_plain = text => !/[^\x00-\x7f]/.test(text);
-const length_in_bytes = text => is_plain(text) ? text.length : bytes_of(text).length;
-
-// The same program with a remark after each line of up to 40 bytes: of a longer line answers name the column of a step's word.
-// Lines and columns are the same. A line that the remark would make too long is left as it is.
-function lengthened(load) {
-  return load.split("\n").map(line => {
-    const body = line.replace(/\r$/, ""), wanted = 41 - length_in_bytes(body.trim());
-    if (!body || body === "end" || wanted <= 0 || length_in_bytes(line) + wanted + 4 > 200) return line;
-    return body + " \\ " + ".".repeat(Math.max(1, wanted - 3)) + line.slice(body.length);
-  }).join("\n");
-}
 
 // The words of a line: from where to where, the column in bytes from 1 on, and whether it is part of a remark.
 function words_of(line) {
@@ -68,6 +57,8 @@ class SourceText {
   }
   row_of(key) { return parseInt(key) - 1; }
   word(key) { const row = this.row_of(key); return (this.words(row).find(it => it.key === key) || { text: "" }).text; }
+  // A word's line from it on.
+  rest(key) { const row = this.row_of(key), it = this.words(row).find(it => it.key === key); return it ? this.lines[row].slice(it.from) : ""; }
   shown(key) { return key; }
   // A filled slot came from no word of its own.
   is_filler(key, label) { return label === "." && !/^(\.|nop|\.\.)$/.test(this.word(key)); }

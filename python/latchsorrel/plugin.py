@@ -41,6 +41,8 @@ class SourceFile(pytest.File):
             raise self.CollectError(f"{place}: {refusal.text}")
         for one in report.expectations:
             yield ExpectationItem.from_parent(self, name=f"{one.line}: {one.text}", report=report, one=one)
+        if report.same:
+            yield OneEndItem.from_parent(self, name=report.same.text, report=report, one=report.same)
 
 
 class NotMet(Exception):
@@ -62,14 +64,17 @@ class ExpectationItem(pytest.Item):
         with open(self.path, encoding="utf-8", errors="replace") as source:
             return next((line.strip() for at, line in enumerate(source, 1) if at == self.one.line), "")
 
+    def title(self):
+        return f"{self.path}:{self.one.line}: {self.source_line()}"
+
     def session_command(self):
-        options = self.config.getini("ga144_options")
+        options = [it for it in self.config.getini("ga144_options") if it != "--same"]
         return shlex.join(["ga144", "check", *options, "--session", str(self.one.session), str(self.path)])
 
     def repr_failure(self, excinfo, style=None):
         if not isinstance(excinfo.value, NotMet):
             return super().repr_failure(excinfo, style)
-        lines = [f"{self.path}:{self.one.line}: {self.source_line()}"]
+        lines = [self.title()]
         if self.one.outcome == "broken":
             lines.append(f"{self.one.text}: broken, {self.one.found()}")
         else:
@@ -80,3 +85,13 @@ class ExpectationItem(pytest.Item):
 
     def reportinfo(self):
         return self.path, self.one.line - 1, f"{self.path.name}:{self.name}"
+
+
+class OneEndItem(ExpectationItem):
+    """One end in every order, as a test, if the options have `--same`."""
+
+    def title(self):
+        return str(self.path)
+
+    def reportinfo(self):
+        return self.path, 0, f"{self.path.name}:{self.name}"

@@ -6,6 +6,7 @@ import json
 import os
 import subprocess
 from dataclasses import dataclass, fields
+from typing import ClassVar
 
 # The exit statuses with a report: each expectation holds, the program is refused, one is broken, one isn't known.
 HOLDS, REFUSED, BROKEN, UNKNOWN = 0, 1, 5, 6
@@ -105,6 +106,20 @@ class Never:
 
 
 @dataclass(frozen=True)
+class Same:
+    """What is known with `--same` of one end in every order, and the number of ends that were found."""
+
+    outcome: str
+    ends: int
+    text: ClassVar[str] = "one end"
+    session: ClassVar[None] = None
+
+    def found(self):
+        """What was found, in the words of `ga144 check`."""
+        return {"holds": "holds in every order", "unknown": "not known"}.get(self.outcome, f"{self.ends} ends")
+
+
+@dataclass(frozen=True)
 class Refusal:
     """Why a program isn't checked, with the line of its source if it is a fault of one."""
 
@@ -125,11 +140,13 @@ class Report:
     expectations: tuple[Expectation, ...] = ()
     ends: tuple[End, ...] = ()
     never: Never | None = None
+    same: Same | None = None
     refusals: tuple[Refusal, ...] = ()
 
     @property
     def holds(self):
-        """Whether each expectation holds in every order, or each end is clean, or no event comes after which a condition holds."""
+        """Whether each expectation holds in every order, or each end is clean, or no event comes after which a condition holds; with `--same` also one
+        end."""
         return self.status == HOLDS
 
 
@@ -173,6 +190,7 @@ def report_of(objects, file, status):
         expectations=expectations_of(objects),
         ends=ends_of(objects),
         never=never,
+        same=next((chosen(Same, it) for it in objects if it["answer"] == "same"), None),
         refusals=tuple(chosen(Refusal, it) for it in objects if it["answer"] == "refused"),
     )
 

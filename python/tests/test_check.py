@@ -61,6 +61,16 @@ def test_conditions_that_never_hold(examples):
     assert report.never.outcome == "holds" and report.holds
 
 
+def test_one_end(examples):
+    report = check(os.path.join(examples, "ring.f18"), "--same")
+    assert report.holds and (report.same.outcome, report.same.ends) == ("holds", 1)
+    assert check(os.path.join(examples, "ring.f18")).same is None
+    # 101 stores 11 or 13, hexadecimal, and each expectation of it holds
+    report = check(os.path.join(examples, "..", "check", "expectations_that_hold"), "--same")
+    assert (report.status, report.same.outcome, report.same.ends) == (5, "broken", 2)
+    assert {one.outcome for one in report.expectations} == {"holds"}
+
+
 def test_a_fault_of_source(tmp_path):
     path = tmp_path / "fault.f18"
     path.write_text("node 101\nfoo\n")

@@ -39,6 +39,22 @@ def test_an_expectation_that_is_not_known_fails(run):
     ran.stdout.fnmatch_lines(["*not known, stopped by states after * states"])
 
 
+def test_one_end_is_a_test_if_it_is_asked_for(run):
+    run("ring.f18", "-o", "ga144_options=--same").assert_outcomes(passed=6)
+
+
+def test_two_ends_fail(pytester, examples):
+    shutil.copy(os.path.join(examples, "..", "check", "expectations_that_hold"), pytester.path / "two_ends.f18")
+    ran = pytester.runpytest("-p", "latchsorrel.plugin", "-o", "ga144_options=--same")
+    ran.assert_outcomes(passed=7, failed=1)
+    ran.stdout.fnmatch_lines(["*/two_ends.f18", "one end: broken, 2 ends"])
+
+
+def test_a_session_is_asked_for_without_one_end(run):
+    ran = run("status-5/lock_asked_with_a_wrong_port.f18", "-o", "ga144_options=--same")
+    ran.stdout.fnmatch_lines(["its session: ga144 check --session 1 */lock_asked_with_a_wrong_port.f18"])
+
+
 def test_a_fault_of_source_is_an_error(pytester):
     pytester.path.joinpath("fault.f18").write_text("node 101\nexpect t = 1\nfoo\n")
     ran = pytester.runpytest("-p", "latchsorrel.plugin")

@@ -87,6 +87,16 @@ def test_what_is_asked_of_a_step(session):
     assert pipeline.writes("007", 0)["rows"] == [] and pipeline.count()["limit"] == 20000000
 
 
+def test_a_value_that_nobody_set(session, tmp_path):
+    source = tmp_path / "unset.f18"
+    source.write_text("node 000\n: main 5 over +\n", encoding="utf-8")
+    unset = session(str(source))
+    assert [unset.step("000").get("opcode") for _ in range(4)] == [None, "@p", "over", "+"]
+    found = unset.whence("000", 4)
+    assert [(row["what"], row["part"], row["value"]) for row in found["rows"] if row["never_set"]] == [("load", "t", 0x15555)]
+    assert (found["opcode"], found["line"], found["column"], found["source"]) == ("+", 2, 15, "000 main 2: : main 5 over +")
+
+
 def test_options(session):
     limited = session("first.f18", "--limit", "2")
     assert limited.run()["end"] == "full"

@@ -35,6 +35,8 @@ pub struct CheckOptions<'a> {
     pub never: Option<&'a str>,
     /// Whether the ends are printed in place of expectations.
     pub ends: bool,
+    /// Whether the program is expected to have one end.
+    pub same: bool,
     pub progress: bool,
 }
 
@@ -79,6 +81,7 @@ fn search(
     let request = CheckRequest {
         most: work.most,
         seconds: work.seconds,
+        same: work.same,
         format: choose_report_format(work.json, name),
     };
     let (limit, settles, asked) = (SESSION_LIMIT, work.settled, work.asked);

@@ -59,6 +59,7 @@ fn main(rt: HostRuntime) -> ExitCode {
                 session,
                 never,
                 ends,
+                same,
                 json,
                 progress,
                 files,
@@ -72,6 +73,7 @@ fn main(rt: HostRuntime) -> ExitCode {
                 asked: session.unwrap_or(0),
                 never: never.as_ref().map(|text| text.as_str()),
                 ends,
+                same,
                 progress,
             };
             ExitCode::from(check_files(&rt, &rt, work, files.as_slice()))

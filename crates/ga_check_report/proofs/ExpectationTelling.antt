@@ -1,5 +1,5 @@
 -- What an outcome and a verdict about expectations say of every interleaving.
-use Rattle.std.proofs.Common.{◌≡◌, ◌∙◌, inl, inr, ℕ, zero, suc, ◌-◌, ◌<◌, ◌≤◌, Bool, true, false, cond, List, [], ◌∷◌, length, get_or, Some, None, true≢false, refl, sym, ap, subst, arith}
+use Rattle.std.proofs.Common.{◌≡◌, ◌∙◌, ◌⊎◌, inl, inr, ℕ, zero, suc, ◌-◌, ◌<◌, ◌≤◌, Bool, true, false, cond, List, [], ◌∷◌, length, get_or, Some, None, true≢false, refl, sym, ap, subst, arith}
 use Rattle.std.specs.Prelude.{slice_get, map}
 use Rattle.std.specs.List.{list_any}
 use Rattle.std.proofs.lemmas.Option.{same_Some, slice_get_within}
@@ -34,7 +34,9 @@ use Rattle.ga_check_report.specs.declared.outcome.ExpectationOutcome.{Expectatio
 use Rattle.ga_check_report.specs.declared.outcome.ExpectationOutcome.TheVariants.{Holds, Broken}
 use Rattle.ga_check_report.specs.declared.outcome.ExpectationOutcome.TheVariants as outcome
 use Rattle.ga_check_report.specs.declared.report.Verdict.TheVariants.{Clean, Unclean, Unknown, Saved, Ended}
-use Rattle.ga_check_report.specs.Outcomes.{HasNoBreach, IsBreach, IsExpectationOutcome, AreExpectationOutcomes, is_outcome_broken, is_outcome_unknown, HoldsInEveryOrder, IsBrokenInSomeOrder}
+use Rattle.ga_check_report.specs.Outcomes.{HasNoBreach, IsBreach, IsExpectationOutcome, AreExpectationOutcomes, is_outcome_broken, is_outcome_unknown, outcomes_verdict, expectations_verdict, HoldsInEveryOrder, IsBrokenInSomeOrder}
+use Rattle.ga_check_report.specs.SameEnd.{one_end_outcome}
+use Rattle.ga_check_report.proofs.SameEnds.{one_end_known, clean_with_same, unclean_with_same, saved_with_same}
 use Rattle.ga_check_report.specs.Expected.{LeadsToBreach, WritesExpectationsReport}
 use Rattle.ga_check_report.specs.Expected.WritesExpectationsReport.{all, led, unbroken, missing, no_memory, too_long}
 
@@ -86,6 +88,9 @@ held s found OneEnd are whole few =
 pub outcome_held : (s : State) (found : EndSearchResult) (expectation : Expectation) → AreEndsOfChip (chip_of s) found → IsExpectationOutcome s found expectation Holds
     → HoldsInEveryOrder (chip_of s) expectation
 outcome_held s found expectation are it = held s found expectation are it.0 it.1
+
+pub one_end_held : (s : State) (found : EndSearchResult) → AreEndsOfChip (chip_of s) found → one_end_outcome found ≡ Holds → HoldsInEveryOrder (chip_of s) OneEnd
+one_end_held s found are is = outcome_held s found OneEnd are (subst (IsExpectationOutcome s found OneEnd) is (one_end_known s found))
 
 -- ---- what is broken
 
@@ -165,41 +170,66 @@ all_held s found expectations outcomes are known broken unknown = λ place one a
     let holds : get_or outcomes place outcome.Unknown ≡ Holds = each_holds outcomes place (omega arith) broken unknown in
     outcome_held s found one.expectation are (subst (IsExpectationOutcome s found one.expectation) holds (known.known place one at))
 
-abbrev OneIsBroken : List LineExpectation → State → Type 0
-OneIsBroken expectations s =
-    (found : EndSearchResult) × (place : ℕ) × (one : LineExpectation) × AreEndsOfChip (chip_of s) found × (slice_get expectations place ≡ Some one)
-    × IsBrokenInSomeOrder s found one.expectation
+abbrev OneIsBroken : EndSearchResult → List LineExpectation → State → Type 0
+OneIsBroken found expectations s =
+    (place : ℕ) × (one : LineExpectation) × (slice_get expectations place ≡ Some one) × IsBrokenInSomeOrder s found one.expectation
 
 one_broken : (s : State) (found : EndSearchResult) (expectations : List LineExpectation) (outcomes : List ExpectationOutcome) → AreEndsOfChip (chip_of s) found
-    → AreExpectationOutcomes s found expectations outcomes → list_any is_outcome_broken outcomes ≡ true → OneIsBroken expectations s
+    → AreExpectationOutcomes s found expectations outcomes → list_any is_outcome_broken outcomes ≡ true → OneIsBroken found expectations s
 one_broken s found expectations outcomes are known broken =
     let it = some_broken outcomes broken in
     let below = it.2 in
     let size = known.size in
     let one = some_at expectations it.0 (omega arith) in
-    (found, it.0, one.0, are, one.1, outcome_broken s found one.0.expectation it.1 are (subst (IsExpectationOutcome s found one.0.expectation) it.3 (known.known it.0 one.0 one.1)))
+    (it.0, one.0, one.1, outcome_broken s found one.0.expectation it.1 are (subst (IsExpectationOutcome s found one.0.expectation) it.3 (known.known it.0 one.0 one.1)))
+
+-- the expectations were written, and what is known of each
+abbrev HasCleanOutcomes : CheckRequest → List LineExpectation → State → Type 0
+HasCleanOutcomes request expectations s =
+    (found : EndSearchResult) × (outcomes : List ExpectationOutcome) × AreEndsOfChip (chip_of s) found × AreExpectationOutcomes s found expectations outcomes
+    × (Clean ≡ expectations_verdict request found outcomes)
+
+clean_outcomes : (request : CheckRequest) (expectations : List LineExpectation) (asked : ℕ) (s : State) (text : List ℕ)
+    → WritesExpectationsReport request expectations asked s text Clean → HasCleanOutcomes request expectations s
+clean_outcomes request expectations asked s text (all found outcomes decisions are known decides start (inl out)) = (found, outcomes, are, known, out.1)
+clean_outcomes request expectations asked s text (all found outcomes decisions are known decides start (inr out)) = absurd (let q = out.1 in cc)
+clean_outcomes request expectations asked s text (led one last at leads (inl out)) = absurd (let q = out.1 in cc)
+clean_outcomes request expectations asked s text (led one last at leads (inr out)) = absurd (let q = out.1 in cc)
+clean_outcomes request expectations asked s text (unbroken found one it are at known (inl out)) = absurd (clean_not_unbroken (is_outcome_unknown it) out.1)
+clean_outcomes request expectations asked s text (unbroken found one it are at known (inr out)) = absurd (let q = out.1 in cc)
+clean_outcomes request expectations asked s text (missing past (inl out)) = absurd (let q = out.1 in cc)
+clean_outcomes request expectations asked s text (missing past (inr out)) = absurd (let q = out.1 in cc)
+clean_outcomes request expectations asked s text (no_memory (inl out)) = absurd (let q = out.1 in cc)
+clean_outcomes request expectations asked s text (no_memory (inr out)) = absurd (let q = out.1 in cc)
+clean_outcomes request expectations asked s text (too_long (inl out)) = absurd (let q = out.1 in cc)
+clean_outcomes request expectations asked s text (too_long (inr out)) = absurd (let q = out.1 in cc)
 
 pub clean_told : (request : CheckRequest) (expectations : List LineExpectation) (asked : ℕ) (s : State) (text : List ℕ) → WritesExpectationsReport request expectations asked s text Clean
     → EachHolds expectations s
-clean_told request expectations asked s text (all found outcomes decisions are known decides start (inl out)) =
-    let parts = clean_by (list_any is_outcome_broken outcomes) (list_any is_outcome_unknown outcomes) out.1 in
-    all_held s found expectations outcomes are known parts.0 parts.1
-clean_told request expectations asked s text (all found outcomes decisions are known decides start (inr out)) = absurd (let q = out.1 in cc)
-clean_told request expectations asked s text (led one last at leads (inl out)) = absurd (let q = out.1 in cc)
-clean_told request expectations asked s text (led one last at leads (inr out)) = absurd (let q = out.1 in cc)
-clean_told request expectations asked s text (unbroken found one it are at known (inl out)) = absurd (clean_not_unbroken (is_outcome_unknown it) out.1)
-clean_told request expectations asked s text (unbroken found one it are at known (inr out)) = absurd (let q = out.1 in cc)
-clean_told request expectations asked s text (missing past (inl out)) = absurd (let q = out.1 in cc)
-clean_told request expectations asked s text (missing past (inr out)) = absurd (let q = out.1 in cc)
-clean_told request expectations asked s text (no_memory (inl out)) = absurd (let q = out.1 in cc)
-clean_told request expectations asked s text (no_memory (inr out)) = absurd (let q = out.1 in cc)
-clean_told request expectations asked s text (too_long (inl out)) = absurd (let q = out.1 in cc)
-clean_told request expectations asked s text (too_long (inr out)) = absurd (let q = out.1 in cc)
+clean_told request expectations asked s text report =
+    let it = clean_outcomes request expectations asked s text report in
+    let same = clean_with_same request.same it.0 (outcomes_verdict it.1) it.4 in
+    let parts = clean_by (list_any is_outcome_broken it.1) (list_any is_outcome_unknown it.1) same.0 in
+    all_held s it.0 expectations it.1 it.2 it.3 parts.0 parts.1
+
+-- with `--same` the program has one end
+pub one_end_told : (request : CheckRequest) (expectations : List LineExpectation) (asked : ℕ) (s : State) (text : List ℕ)
+    → WritesExpectationsReport request expectations asked s text Clean → request.same ≡ true → HoldsInEveryOrder (chip_of s) OneEnd
+one_end_told request expectations asked s text report is =
+    let it = clean_outcomes request expectations asked s text report in
+    let same = clean_with_same request.same it.0 (outcomes_verdict it.1) it.4 in
+    one_end_held s it.0 it.2 (same.1 is)
 
 pub unclean_told : (request : CheckRequest) (expectations : List LineExpectation) (asked : ℕ) (s : State) (text : List ℕ) → WritesExpectationsReport request expectations asked s text Unclean
-    → OneIsBroken expectations s
-unclean_told request expectations asked s text (all found outcomes decisions are known decides start (inl out)) =
-    one_broken s found expectations outcomes are known (unclean_by (list_any is_outcome_broken outcomes) (list_any is_outcome_unknown outcomes) out.1)
+    → (found : EndSearchResult) × AreEndsOfChip (chip_of s) found × (OneIsBroken found expectations s ⊎ ((request.same ≡ true) × IsBrokenInSomeOrder s found OneEnd))
+unclean_told request expectations asked s text (all found outcomes decisions are known decides start (inl out)) = (
+  found,
+  are,
+  elim (unclean_with_same request.same found (outcomes_verdict outcomes) out.1) [
+    | inl before ↦ inl (one_broken s found expectations outcomes are known (unclean_by (list_any is_outcome_broken outcomes) (list_any is_outcome_unknown outcomes) before))
+    | inr same ↦ inr same
+  ],
+)
 unclean_told request expectations asked s text (all found outcomes decisions are known decides start (inr out)) = absurd (let q = out.1 in cc)
 unclean_told request expectations asked s text (led one last at leads (inl out)) = absurd (let q = out.1 in cc)
 unclean_told request expectations asked s text (led one last at leads (inr out)) = absurd (let q = out.1 in cc)
@@ -214,7 +244,8 @@ unclean_told request expectations asked s text (too_long (inr out)) = absurd (le
 
 pub session_told : (request : CheckRequest) (expectations : List LineExpectation) (asked : ℕ) (s : State) (text : List ℕ) → WritesExpectationsReport request expectations asked s text Saved
     → (one : LineExpectation) × (last : State) × (slice_get expectations (asked - 1) ≡ Some one) × LeadsToBreach s one.expectation last × (text ≡ saved_text last)
-session_told request expectations asked s text (all found outcomes decisions are known decides start (inl out)) = absurd (not_saved (list_any is_outcome_broken outcomes) (list_any is_outcome_unknown outcomes) out.1)
+session_told request expectations asked s text (all found outcomes decisions are known decides start (inl out)) =
+    absurd (not_saved (list_any is_outcome_broken outcomes) (list_any is_outcome_unknown outcomes) (saved_with_same request.same found (outcomes_verdict outcomes) out.1))
 session_told request expectations asked s text (all found outcomes decisions are known decides start (inr out)) = absurd (let q = out.1 in cc)
 session_told request expectations asked s text (led one last at leads (inl out)) = (one, last, at, leads, out.0)
 session_told request expectations asked s text (led one last at leads (inr out)) = absurd (let q = out.1 in cc)

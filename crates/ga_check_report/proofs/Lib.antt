@@ -4,6 +4,7 @@ pub mod Leading
 pub mod LinkBreaches
 pub mod Resting
 pub mod Telling
+pub mod SameEnds
 pub mod ExpectationsOut
 pub mod JudgingLemmas
 pub mod ExpectationTelling

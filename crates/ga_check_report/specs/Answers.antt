@@ -1,6 +1,6 @@
 -- What `ga144 check` prints, in the format that was asked for: text (docs/REFERENCE.md, "Every order" and "Every expectation") or JSON (docs/JSON.md; both
 -- this project's own). A session is text in either.
-use Rattle.std.specs.Prelude.{ℕ, Bool, true, false, List, length, Option}
+use Rattle.std.specs.Prelude.{ℕ, Bool, true, false, List, ◌++◌, length, Option}
 use Rattle.ga_text.specs.Lines.{Text}
 use Rattle.ga_event.specs.declared.made.Made.{Made}
 use Rattle.ga_lab.specs.Machine.{State}
@@ -17,6 +17,7 @@ use Rattle.ga_check_report.specs.EndTexts.{ends_text}
 use Rattle.ga_check_report.specs.EndJson.{ends_json}
 use Rattle.ga_check_report.specs.ExpectationTexts.{expectations_text}
 use Rattle.ga_check_report.specs.ExpectationJson.{expectations_json}
+use Rattle.ga_check_report.specs.SameEnd.{same_answer}
 use Rattle.ga_check_report.specs.NeverTexts.{unreached_event_text, reached_event_text}
 use Rattle.ga_check_report.specs.NeverJson.{unreached_event_json, reached_event_json}
 use Rattle.ga_json.specs.Diagnostics.{diagnostics_json}
@@ -30,15 +31,18 @@ abbrev pub ends_answer_by : ReportFormat → CheckRequest → EndSearchResult �
 ends_answer_by format.Text request found = ends_text request found
 ends_answer_by (format.Json file) request found = ends_json file.now found
 
+-- the ends, and what `--same` adds
 abbrev pub ends_answer : CheckRequest → EndSearchResult → Text
-ends_answer request found = ends_answer_by request.format request found
+ends_answer request found = ends_answer_by request.format request found ++ same_answer request found
 
 abbrev pub expectations_answer_by : ReportFormat → CheckRequest → EndSearchResult → List LineExpectation → List ExpectationOutcome → List (Option EndDecision) → Text
 expectations_answer_by format.Text request found expectations outcomes decisions = expectations_text request found expectations outcomes decisions
 expectations_answer_by (format.Json file) request found expectations outcomes decisions = expectations_json file.now found expectations outcomes decisions
 
+-- the expectations, and what `--same` adds
 abbrev pub expectations_answer : CheckRequest → EndSearchResult → List LineExpectation → List ExpectationOutcome → List (Option EndDecision) → Text
-expectations_answer request found expectations outcomes decisions = expectations_answer_by request.format request found expectations outcomes decisions
+expectations_answer request found expectations outcomes decisions =
+    expectations_answer_by request.format request found expectations outcomes decisions ++ same_answer request found
 
 abbrev pub unreached_event_answer_by : ReportFormat → CheckRequest → EndSearchResult → Text
 unreached_event_answer_by format.Text request found = unreached_event_text request found

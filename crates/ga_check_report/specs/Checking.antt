@@ -19,17 +19,22 @@ use Rattle.ga_check_report.specs.declared.report.Verdict.{Verdict}
 use Rattle.ga_check_report.specs.declared.report.Verdict.TheVariants.{Clean, Unclean, Unknown, Saved, Ended}
 use Rattle.ga_check_report.specs.EndTexts.{missing_kind_text, is_fully_explored}
 use Rattle.ga_check_report.specs.Answers.{refusal_answer, ends_answer}
+use Rattle.ga_check_report.specs.SameEnd.{verdict_with_same}
 use Rattle.ga_check_report.specs.Opened.{IsUnopenedAnswer}
 use Rattle.ga_check_report.specs.Settled.{check_start}
 
 -- ---- the verdict
 
 -- an end that isn't clean was found; or there is none; or there may be others
-abbrev pub ends_verdict : EndSearchResult → Verdict
-ends_verdict found =
+abbrev pub kinds_verdict : EndSearchResult → Verdict
+kinds_verdict found =
     if list_any is_unclean found.kinds then Unclean
     else if is_fully_explored found.fault then Clean
     else Unknown
+
+-- and where `--same` asks for one end
+abbrev pub ends_verdict : CheckRequest → EndSearchResult → Verdict
+ends_verdict request found = verdict_with_same request.same found (kinds_verdict found)
 
 -- the verdict where no kind of end has the number: there is none, or there may be one
 abbrev pub missing_kind_verdict : EndSearchResult → Verdict
@@ -60,7 +65,7 @@ IsWrittenWithVerdict whole verdict text end = ((text ≡ whole) × (end ≡ verd
 -- The text about a machine: the kinds of its ends; or the session of one that is named by its number; or that there is no such kind; or
 -- that there was no memory; or that the machine keeps fewer events than the session has.
 pub data WritesEndsReport (request : CheckRequest) (asked : ℕ) (s : State) (text : Text) (verdict : Verdict) : Type 0 where
-  all : (found : EndSearchResult) → AreEndsOfChip (chip_of s) found → asked ≡ 0 → IsWrittenWithVerdict (ends_answer request found) (ends_verdict found) text verdict
+  all : (found : EndSearchResult) → AreEndsOfChip (chip_of s) found → asked ≡ 0 → IsWrittenWithVerdict (ends_answer request found) (ends_verdict request found) text verdict
       → WritesEndsReport request asked s text verdict
   none : (found : EndSearchResult) → AreEndsOfChip (chip_of s) found → length found.kinds < asked → IsWrittenWithVerdict (missing_kind_text asked found) (missing_kind_verdict found) text verdict
       → WritesEndsReport request asked s text verdict

@@ -31,7 +31,7 @@ use Rattle.ga_check_report.specs.Answers.{refusal_answer, expectations_answer}
 use Rattle.ga_check_report.specs.BreachDecisions.{AreBreachesDecided}
 use Rattle.ga_check_report.specs.Opened.{IsUnopenedAnswer}
 use Rattle.ga_check_report.specs.Never.{HasReachedEvent}
-use Rattle.ga_check_report.specs.Outcomes.{is_outcome_unknown, IsExpectationOutcome, AreExpectationOutcomes, outcomes_verdict}
+use Rattle.ga_check_report.specs.Outcomes.{is_outcome_unknown, IsExpectationOutcome, AreExpectationOutcomes, expectations_verdict}
 use Rattle.ga_check_report.specs.Settled.{check_start}
 
 -- Events led the machine to this one, on whose chip the expectation isn't met and to which the program can always come back; or an event that
@@ -54,7 +54,7 @@ unbroken_expectation_verdict outcome = if is_outcome_unknown outcome then Unknow
 pub data WritesExpectationsReport (request : CheckRequest) (expectations : List LineExpectation) (asked : ℕ) (s : State) (text : Text) (verdict : Verdict) : Type 0 where
   all : (found : EndSearchResult) (outcomes : List ExpectationOutcome) (decisions : List (Option EndDecision)) → AreEndsOfChip (chip_of s) found
       → AreExpectationOutcomes s found expectations outcomes → AreBreachesDecided found expectations outcomes decisions → asked ≡ 0
-      → IsWrittenWithVerdict (expectations_answer request found expectations outcomes decisions) (outcomes_verdict outcomes) text verdict
+      → IsWrittenWithVerdict (expectations_answer request found expectations outcomes decisions) (expectations_verdict request found outcomes) text verdict
       → WritesExpectationsReport request expectations asked s text verdict
   led : (one : LineExpectation) (last : State) → slice_get expectations (asked - 1) ≡ Some one → LeadsToBreach s one.expectation last
       → IsWrittenWithVerdict (saved_text last) Saved text verdict → WritesExpectationsReport request expectations asked s text verdict

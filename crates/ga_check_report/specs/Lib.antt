@@ -16,5 +16,6 @@ pub mod NeverTexts
 pub mod Observations
 pub mod Opened
 pub mod Outcomes
+pub mod SameEnd
 pub mod Settled
 pub mod inner

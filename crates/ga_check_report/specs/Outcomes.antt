@@ -30,6 +30,8 @@ use Rattle.ga_check_report.specs.declared.outcome.ExpectationOutcome.TheVariants
 use Rattle.ga_check_report.specs.declared.report.Verdict.{Verdict}
 use Rattle.ga_check_report.specs.declared.report.Verdict.TheVariants as verdict
 use Rattle.ga_check_report.specs.EndTexts.{is_fully_explored}
+use Rattle.ga_check_report.specs.SameEnd.{verdict_with_same}
+use Rattle.ga_check_report.specs.declared.request.CheckRequest.{CheckRequest}
 use Rattle.ga_check_report.specs.Never.{HasReachedEvent}
 use Rattle.ga_check_report.specs.Observations.{observation_of_node}
 
@@ -98,6 +100,10 @@ is_outcome_unknown Unknown = true
 abbrev pub outcomes_verdict : List ExpectationOutcome → Verdict
 outcomes_verdict outcomes =
     if list_any is_outcome_broken outcomes then verdict.Unclean else if list_any is_outcome_unknown outcomes then verdict.Unknown else verdict.Clean
+
+-- and where `--same` asks for one end
+abbrev pub expectations_verdict : CheckRequest → EndSearchResult → List ExpectationOutcome → Verdict
+expectations_verdict request found outcomes = verdict_with_same request.same found (outcomes_verdict outcomes)
 
 -- ---- what that says of every interleaving
 

@@ -23,7 +23,7 @@ use Rattle.ga_check_report.specs.declared.report.Verdict.TheVariants.{Ended}
 use Rattle.ga_check_report.specs.Answers.{refusal_answer, expectations_answer}
 use Rattle.ga_check_report.specs.BreachDecisions.{AreBreachesDecided}
 use Rattle.ga_check_report.specs.Checking.{IsWrittenWithVerdict}
-use Rattle.ga_check_report.specs.Outcomes.{outcomes_verdict}
+use Rattle.ga_check_report.specs.Outcomes.{expectations_verdict}
 use Rattle.ga_json.specs.declared.format.ReportFormat.{ReportFormat}
 use Rattle.ga_check_report.specs.ExpectationJson.{observation_sides}
 use Rattle.ga_check_report.specs.Opened.{IsUnopenedAnswer}
@@ -38,7 +38,7 @@ WritesSessionOf request one asked s text verdict =
 pub data WritesOutcomes (request : CheckRequest) (found : EndSearchResult) (expectations : List LineExpectation) (outcomes : List ExpectationOutcome) (text : Text)
     (verdict : Verdict) : Type 0 where
   decided : (decisions : List (Option EndDecision)) → AreBreachesDecided found expectations outcomes decisions
-      → IsWrittenWithVerdict (expectations_answer request found expectations outcomes decisions) (outcomes_verdict outcomes) text verdict
+      → IsWrittenWithVerdict (expectations_answer request found expectations outcomes decisions) (expectations_verdict request found outcomes) text verdict
       → WritesOutcomes request found expectations outcomes text verdict
   undecided : IsWrittenWithVerdict (refusal_answer request.format fault.Memory) (Ended status.ImageRefused) text verdict
       → WritesOutcomes request found expectations outcomes text verdict

@@ -20,7 +20,7 @@ use ga_text::{TextBuffer, WriteResult, Writer, push_text};
 use std::io::Write;
 
 /// The words that name what is known of an expectation.
-fn outcome_word(outcome: ExpectationOutcome) -> &'static [u8]
+pub(crate) fn outcome_word(outcome: ExpectationOutcome) -> &'static [u8]
     ensures { result.now ≡ outcome_word outcome }
 {
     match outcome {

@@ -9,9 +9,9 @@ ghost use Rattle.ga_state_ends.specs.Ends.{AreEndsOfChip};
 ghost use Rattle.ga_check_report.specs.declared.outcome.ExpectationOutcome.TheVariants.{Unknown};
 ghost use Rattle.ga_check_report.specs.declared.report.Verdict.TheVariants.{Ended};
 ghost use Rattle.ga_check_report.specs.Checking.{IsWrittenWithVerdict};
-ghost use Rattle.ga_check_report.specs.Answers.{expectations_answer};
+ghost use Rattle.ga_check_report.specs.Answers.{expectations_answer, expectations_answer_by};
 ghost use Rattle.ga_check_report.specs.ExpectationTexts.{expectations_lines_text, expectations_text, missing_session_text, optional_search_stop_text};
-ghost use Rattle.ga_check_report.specs.Outcomes.{AreExpectationOutcomes, outcomes_verdict};
+ghost use Rattle.ga_check_report.specs.Outcomes.{AreExpectationOutcomes, expectations_verdict};
 ghost use Rattle.ga_check_report.specs.Expected.{WritesReportForDebugInfo, WritesExpectationsReport, WritesProgramReport, IsProgramOutcome};
 ghost use Rattle.ga_check_report.specs.Settled.{check_start};
 ghost use Rattle.ga_check_report.specs.inner.{WritesOutcomes};
@@ -22,10 +22,11 @@ use crate::ends_text::{is_fully_explored, stopped_line};
 use crate::expectations_json::write_expectations_json;
 use crate::judging::judge_all;
 use crate::opening::open_program;
-use crate::outcome::{ExpectationOutcome, OutcomeParts, outcomes_verdict};
+use crate::outcome::{ExpectationOutcome, OutcomeParts};
 use crate::outcome_text::{expectations_header, missing_session_text};
 use crate::report::{Verdict, sent, tell_ends, tell_refused};
 use crate::request::CheckRequest;
+use crate::same_end::{expectations_verdict, write_expectations_answer};
 use crate::settling::settle_waiting_nodes;
 use ga_console::Status;
 use ga_explorer::Explorer;
@@ -40,7 +41,7 @@ use std::io::{Read, Write};
 
 /// Reads an image or source as [`crate::check_ends`] does. Writes of each expectation of the source whether it holds in every order; or, if one is
 /// named by its number, from 1 on, the lines `step NNN` that lead to what breaks it. Without expectations it does what [`crate::check_ends`] does.
-/// The verdict is `Clean` where each holds, `Unclean` where one is broken.
+/// The verdict is `Clean` where each holds, `Unclean` where one is broken. With `request.same` one end is expected, too.
 pub fn check_program<R: Read, W: Write, E: Write>(
     alloc: Global,
     reader: &mut R,
@@ -262,19 +263,30 @@ fn tell_outcomes<W: Write>(
     decisions: &[Option<EndDecision>],
     writer: &mut W,
 ) -> Verdict
-    ensures { WritesText (λ text. IsWrittenWithVerdict (expectations_answer request.entry found.now expectations.now outcomes.now decisions.now) (outcomes_verdict outcomes.now) text result)
+    ensures { WritesText (λ text. IsWrittenWithVerdict (expectations_answer request.entry found.now expectations.now outcomes.now decisions.now) (expectations_verdict request.entry found.now outcomes.now) text result)
         (W.contents writer.old) (W.contents writer.new) }
 {
     let mut out = Writer::new(writer);
-    let said = write_expectations(request, found, expectations, outcomes, decisions, &mut out);
-    sent(said, outcomes_verdict(outcomes), &mut out)
+    let said = write_expectations_answer(
+        request,
+        found,
+        expectations,
+        outcomes,
+        decisions,
+        &mut out,
+    );
+    sent(
+        said,
+        expectations_verdict(request, found, outcomes),
+        &mut out,
+    )
 }
 
 /// Writes the expectations with what is known of them, in the format that was asked for.
 ///
 /// # Errors
 /// A write failed.
-fn write_expectations<W: Write>(
+pub(crate) fn write_expectations<W: Write>(
     request: CheckRequest<'_>,
     found: &FoundEnds,
     expectations: &[LineExpectation],
@@ -282,7 +294,7 @@ fn write_expectations<W: Write>(
     decisions: &[Option<EndDecision>],
     writer: &mut Writer<'_, W>,
 ) -> WriteResult
-    ensures { WritesExactly result (expectations_answer request.entry found.now expectations.now outcomes.now decisions.now) W.contents writer.old writer.new }
+    ensures { WritesExactly result (expectations_answer_by request.entry.format request.entry found.now expectations.now outcomes.now decisions.now) W.contents writer.old writer.new }
 {
     match request.format {
         ReportFormat::Text => {

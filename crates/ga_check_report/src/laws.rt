@@ -1,6 +1,6 @@
 //! What a reader of the answer of `ga144 check` may rely on, as laws: each is the contract of a function that does nothing.
 
-ghost use Rattle.std.specs.Prelude.{◌≡◌, ◌-◌, ◌++◌, ℕ, Bool, List, None, Some, true, false, length, slice_get};
+ghost use Rattle.std.specs.Prelude.{◌≡◌, ◌⊎◌, ◌<◌, ◌-◌, ◌++◌, ℕ, Bool, List, None, Some, true, false, length, slice_get};
 ghost use Rattle.std.specs.List.{list_any};
 ghost use Rattle.ga_text.specs.Lines.{Text};
 ghost use Rattle.ga_event.specs.declared.event.Event.{Event};
@@ -17,6 +17,7 @@ ghost use Rattle.ga_check_report.specs.Answers.{ends_answer, reached_event_answe
 ghost use Rattle.ga_check_report.specs.Never.{HasReachedEvent, WritesNeverReport};
 ghost use Rattle.ga_check_report.specs.Settled.{state_after_settling};
 ghost use Rattle.ga_state_expectations.specs.declared.source.Expectation.{Expectation as AnExpectation};
+ghost use Rattle.ga_state_expectations.specs.declared.source.Expectation.TheVariants.{OneEnd};
 ghost use Rattle.ga_state_expectations.specs.declared.source.LineExpectation.{LineExpectation};
 ghost use Rattle.ga_check_report.specs.declared.outcome.Breach.{Breach as ABreach};
 ghost use Rattle.ga_check_report.specs.declared.outcome.ExpectationOutcome.TheVariants.{Holds, Broken};
@@ -26,16 +27,20 @@ ghost use Rattle.ga_check_report.specs.Checking.{WritesEndsReport, HasAppendedEv
 ghost use Rattle.ga_check_report.specs.declared.request.CheckRequest.{CheckRequest};
 ghost use Rattle.ga_check_report.specs.declared.report.Verdict.TheVariants.{Clean, Unclean, Saved};
 
-/// Where the verdict is `Clean`, each state was explored, each kind of end is written, and each is clean.
+/// Where the verdict is `Clean`, each state was explored, each kind of end is written, and each is clean. With `--same` each list of events can be
+/// continued to one and the same chip.
 pub fn clean_verdict_sound()
-    ensures { (request : CheckRequest) (asked : ℕ) (s : State) (text : Text) → WritesEndsReport request asked s text Clean →
+    ensures clean { (request : CheckRequest) (asked : ℕ) (s : State) (text : Text) → WritesEndsReport request asked s text Clean →
         (found : EndSearchResult) × AreEndsOfChip (chip_of s) found × (found.fault ≡ None) × (list_any is_unclean found.kinds ≡ false) × (text ≡ ends_answer request found) }
+    ensures same { (request : CheckRequest) (asked : ℕ) (s : State) (text : Text) → WritesEndsReport request asked s text Clean → request.same ≡ true →
+        HoldsInEveryOrder (chip_of s) OneEnd }
 {}
 
-/// Where the verdict is `Unclean`, an end that isn't clean is written.
+/// Where the verdict is `Unclean`, an end that isn't clean is written; or `--same` asks for one end, and two were found.
 pub fn unclean_verdict_sound()
     ensures { (request : CheckRequest) (asked : ℕ) (s : State) (text : Text) → WritesEndsReport request asked s text Unclean →
-        (found : EndSearchResult) × AreEndsOfChip (chip_of s) found × (list_any is_unclean found.kinds ≡ true) × (text ≡ ends_answer request found) }
+        (found : EndSearchResult) × AreEndsOfChip (chip_of s) found
+        × ((list_any is_unclean found.kinds ≡ true) ⊎ ((request.same ≡ true) × (1 < length found.ends))) × (text ≡ ends_answer request found) }
 {}
 
 /// Where the verdict is `Saved`, the session that is written leads to an end of the kind that was asked for.
@@ -72,15 +77,19 @@ pub fn expectation_outcomes_sound()
         IsExpectationOutcome s found expectation (Broken breach) → IsBrokenInSomeOrder s found expectation }
 {}
 
-/// Where the verdict about expectations is `Clean`, each holds in every order, and its line says so. Where it is `Unclean`, one is broken.
+/// Where the verdict about expectations is `Clean`, each holds in every order, and its line says so; with `--same` there is one end in every order,
+/// too. Where it is `Unclean`, one is broken; or `--same` asks for one end, and two were found.
 pub fn expectations_verdict_sound()
     ensures clean { (request : CheckRequest) (expectations : List LineExpectation) (asked : ℕ) (s : State) (text : Text) →
         WritesExpectationsReport request expectations asked s text Clean → (place : ℕ) (one : LineExpectation) → slice_get expectations place ≡ Some one →
         HoldsInEveryOrder (chip_of s) one.expectation }
+    ensures same { (request : CheckRequest) (expectations : List LineExpectation) (asked : ℕ) (s : State) (text : Text) →
+        WritesExpectationsReport request expectations asked s text Clean → request.same ≡ true → HoldsInEveryOrder (chip_of s) OneEnd }
     ensures unclean { (request : CheckRequest) (expectations : List LineExpectation) (asked : ℕ) (s : State) (text : Text) →
         WritesExpectationsReport request expectations asked s text Unclean →
-        (found : EndSearchResult) × (place : ℕ) × (one : LineExpectation) × AreEndsOfChip (chip_of s) found × (slice_get expectations place ≡ Some one)
-        × IsBrokenInSomeOrder s found one.expectation }
+        (found : EndSearchResult) × AreEndsOfChip (chip_of s) found
+        × (((place : ℕ) × (one : LineExpectation) × (slice_get expectations place ≡ Some one) × IsBrokenInSomeOrder s found one.expectation)
+        ⊎ ((request.same ≡ true) × IsBrokenInSomeOrder s found OneEnd)) }
 {}
 
 /// Where the verdict about an expectation is `Saved`, the session that is written leads to what breaks it.

@@ -28,6 +28,7 @@ mod outcome;
 mod outcome_text;
 mod report;
 mod request;
+mod same_end;
 mod settling;
 
 pub use expected::check_program;

@@ -127,7 +127,7 @@ fn push_breach(out: &mut TextBuffer, whole: bool, number: usize, breach: Breach)
 }
 
 /// What comes after the words of the expectation with this number: what is known of it, if each state was explored or not.
-fn outcome_text(whole: bool, number: usize, outcome: ExpectationOutcome) -> TextBuffer
+pub(crate) fn outcome_text(whole: bool, number: usize, outcome: ExpectationOutcome) -> TextBuffer
     ensures { result.items ≡ outcome_text whole number outcome }
 {
     let mut out = ArrayVec::new();

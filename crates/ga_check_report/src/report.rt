@@ -11,8 +11,8 @@ ghost use Rattle.ga_state_ends.specs.Ends.{AreEndsOfChip, is_unclean};
 ghost use Rattle.ga_lab.specs.declared.fault.LabFault.TheVariants.{Memory, Full};
 ghost use Rattle.ga_check_report.specs.Settled.{check_start};
 ghost use Rattle.ga_check_report.specs.EndTexts.{missing_kind_text};
-ghost use Rattle.ga_check_report.specs.Answers.{refusal_answer, ends_answer};
-ghost use Rattle.ga_check_report.specs.Checking.{WritesEndsReport, IsCheckOutcome, IsWrittenWithVerdict, HasReachedEndKind, ends_verdict, missing_kind_verdict};
+ghost use Rattle.ga_check_report.specs.Answers.{refusal_answer, ends_answer, ends_answer_by};
+ghost use Rattle.ga_check_report.specs.Checking.{WritesEndsReport, IsCheckOutcome, IsWrittenWithVerdict, HasReachedEndKind, kinds_verdict, ends_verdict, missing_kind_verdict};
 ghost use Rattle.ga_check_report.specs.declared.report.Verdict.TheVariants.{Saved, Ended};
 
 use crate::ends_json::write_ends_json;
@@ -20,6 +20,7 @@ use crate::ends_text::{is_fully_explored, write_ends, write_no_kind};
 use crate::making::make_all;
 use crate::opening::open_program;
 use crate::request::CheckRequest;
+use crate::same_end::{verdict_with_same, write_same};
 use crate::settling::settle_waiting_nodes;
 use ga_console::Status;
 use ga_display::refusal_text;
@@ -35,10 +36,11 @@ use std::io::{Read, Write};
 /// What came of the search for the ends of a program.
 #[derive(Clone, Copy, PartialEq, Eq, Debug)]
 pub enum Verdict {
-    /// At each end each node runs on or is clean; or no event comes after which a condition holds; or each expectation holds.
+    /// At each end each node runs on or is clean; or no event comes after which a condition holds; or each expectation holds. If one end is
+    /// expected, there is one.
     Clean,
     /// At some end a node makes no further step and doesn't rest cleanly; or there is an event after which a condition holds; or an expectation is
-    /// broken.
+    /// broken; or one end is expected, and two were found.
     Unclean,
     /// A bound was met, and each end that was found is clean, or what was asked for wasn't found, or no expectation is broken.
     Unknown,
@@ -49,7 +51,7 @@ pub enum Verdict {
 }
 
 /// Reads an image or source, as `explore` does, and nothing after its line `end`. Writes the kinds of its ends, whatever the order in which its
-/// nodes run; or, if a kind is named by its number, from 1 on, the lines `step NNN` that lead to the first of its ends. Stores at most
+/// nodes run, and with `request.same` whether there is one end; or, if a kind is named by its number, from 1 on, the lines `step NNN` that lead to the first of its ends. Stores at most
 /// `request.most` states; a session has at most `limit` events. With `settles` each node whose first event is to wait for code makes it
 /// before all else, in the order of their numbers, as on a real chip; a session has these steps first. The fault of a source is written to
 /// `errors`, a refused image and want of memory to `writer`. While it searches, `watch` has the number of states, and stops it.
@@ -196,15 +198,15 @@ fn lead_to(alloc: Global, lab: &mut Lab, found: &FoundEnds, asked: u32) -> Resul
 
 /// Writes the kinds of end.
 fn tell_all<W: Write>(request: CheckRequest<'_>, found: &FoundEnds, writer: &mut W) -> Verdict
-    ensures { WritesText (λ text. IsWrittenWithVerdict (ends_answer request.entry found.now) (ends_verdict found.now) text result)
+    ensures { WritesText (λ text. IsWrittenWithVerdict (ends_answer request.entry found.now) (ends_verdict request.entry found.now) text result)
         (W.contents writer.old) (W.contents writer.new) }
 {
     let mut out = Writer::new(writer);
     let said = write_answer(request, found, &mut out);
-    sent(said, ends_verdict(found), &mut out)
+    sent(said, ends_verdict(request, found), &mut out)
 }
 
-/// Writes the kinds of end in the format that was asked for.
+/// Writes the kinds of end, and whether the program has one end, if `--same` asks for it.
 ///
 /// # Errors
 /// A write failed.
@@ -214,6 +216,21 @@ fn write_answer<W: Write>(
     writer: &mut Writer<'_, W>,
 ) -> WriteResult
     ensures { WritesExactly result (ends_answer request.entry found.now) W.contents writer.old writer.new }
+{
+    write_kinds(request, found, writer)?;
+    write_same(request, found, writer)
+}
+
+/// Writes the kinds of end in the format that was asked for.
+///
+/// # Errors
+/// A write failed.
+fn write_kinds<W: Write>(
+    request: CheckRequest<'_>,
+    found: &FoundEnds,
+    writer: &mut Writer<'_, W>,
+) -> WriteResult
+    ensures { WritesExactly result (ends_answer_by request.entry.format request.entry found.now) W.contents writer.old writer.new }
 {
     match request.format {
         ReportFormat::Text => write_ends(request, found, writer),
@@ -291,9 +308,16 @@ pub(crate) fn sent<W: Write>(
     }
 }
 
+/// The verdict about the kinds of end, and about one end, if `--same` asks for it.
+fn ends_verdict(request: CheckRequest<'_>, found: &FoundEnds) -> Verdict
+    ensures { result ≡ ends_verdict request.entry found.now }
+{
+    verdict_with_same(request.same, found, kinds_verdict(found))
+}
+
 /// Whether an end that isn't clean was found, or there is none, or there may be others.
-fn ends_verdict(found: &FoundEnds) -> Verdict
-    ensures { result ≡ ends_verdict found.now }
+fn kinds_verdict(found: &FoundEnds) -> Verdict
+    ensures { result ≡ kinds_verdict found.now }
 {
     if has_unclean(found.kinds()) {
         Verdict::Unclean

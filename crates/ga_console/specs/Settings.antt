@@ -11,7 +11,7 @@ abbrev pub AreSettingsInRange : Settings → Type 0
 AreSettingsInRange (Debug limit) = IsBetween 1 4000000 limit
 AreSettingsInRange (Explore limit strict json chip file) = IsBetween 1 100000000 limit
 AreSettingsInRange (Race workers calls limit) = IsBetween 1 16 workers × IsBetween 1 100000 calls × IsBetween 1 4000000 limit
-AreSettingsInRange (Check most seconds settled session never ends json progress files) = IsBetween 1 4294967295 most × IfSome seconds (IsBetween 1 4294967295) × IfSome session (IsBetween 1 4294967295)
+AreSettingsInRange (Check most seconds settled session never ends same json progress files) = IsBetween 1 4294967295 most × IfSome seconds (IsBetween 1 4294967295) × IfSome session (IsBetween 1 4294967295)
 AreSettingsInRange Dap = Unit {0}
 AreSettingsInRange (Assemble json file) = Unit {0}
 AreSettingsInRange (List file) = Unit {0}

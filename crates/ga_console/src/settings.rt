@@ -10,7 +10,7 @@ use crate::step_selector::StepSelector;
 use clap::ArgMatches;
 use ga_grid::NodeId;
 use lines::{GREATEST_EXPLORED, GREATEST_LIMIT, MOST_CALLS, MOST_WORKERS, program};
-use refusals::{no_further_file, no_json_session, no_later_session};
+use refusals::{no_further_file, no_json_session, no_later_session, no_same};
 use std::alloc::Global;
 use thiserror::Error;
 use values::{file, files, fold, kind, limit, name, number, place, seconds, step};
@@ -51,7 +51,7 @@ pub enum Settings {
     },
     /// Find the ends of a program in every order of its nodes, with at most `most` states, 1 to 4294967295, in at most `seconds`, 1 to
     /// 4294967295, if given, and write their kinds; or write the session of one kind, whose number counts from 1. Of source with expectations
-    /// write whether each holds, or the session of one, unless `ends` is set. With `never` find an event after which one of the conditions of
+    /// write whether each holds, or the session of one, unless `ends` is set. With `same` one end is expected, too. With `never` find an event after which one of the conditions of
     /// this text holds, or write its session. With `settled` each node whose first event is to wait for code makes it first, with `json` the
     /// answer is JSON objects, but for a session, and with `progress` the progress is written. The `files` are checked one after another; `-`
     /// is standard input, and so is no file.
@@ -62,6 +62,7 @@ pub enum Settings {
         session: Option<u32>,
         never: Option<String>,
         ends: bool,
+        same: bool,
         json: bool,
         progress: bool,
         files: Vec<String>,
@@ -193,6 +194,10 @@ fn checked(alloc: Global, check: &ArgMatches<'_>) -> Result<Settings, CommandLin
     if never.is_some() && is_later_kind(session) {
         return Err(no_later_session(alloc));
     }
+    let same = check.get_flag("same");
+    if same && (never.is_some() || session.is_some()) {
+        return Err(no_same(alloc));
+    }
     let json = check.get_flag("json");
     if json && session.is_some() {
         return Err(no_json_session(alloc));
@@ -208,6 +213,7 @@ fn checked(alloc: Global, check: &ArgMatches<'_>) -> Result<Settings, CommandLin
         session,
         never,
         ends: check.get_flag("ends"),
+        same,
         json,
         progress: check.get_flag("progress"),
         files,

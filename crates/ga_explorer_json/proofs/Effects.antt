@@ -1,7 +1,8 @@
 -- What a call means for the answer to `effects`.
-use Rattle.std.proofs.Common.{◌≡◌, ℕ, List, Result, Ok, Err, codes, ap, sym, ◌∙◌, ◌⊎◌, inl, inr}
+use Rattle.std.proofs.Common.{◌≡◌, ℕ, List, Option, Result, Ok, Err, codes, ap, sym, ◌∙◌, ◌⊎◌, inl, inr}
 use Rattle.std.specs.Prelude.{IsOk}
 use Rattle.ga_grid.specs.declared.node_id.NodeId.{NodeId}
+use Rattle.ga_debug_info.specs.declared.notes.DebugInfo.{DebugInfo}
 use Rattle.ga_event.specs.Told.{count_steps}
 use Rattle.ga_lab.specs.Machine.{State, rewind_answer}
 use Rattle.ga_lab.specs.declared.fault.LabFault.{LabFault}
@@ -11,13 +12,13 @@ use Rattle.ga_scheduler.specs.declared.effects.RollbackEffect.{RollbackEffect}
 use Rattle.ga_explorer_json.specs.Refusals.{step_refusal_json}
 use Rattle.ga_explorer_json.specs.Effects.{listed_effects_json, effects_json, IsEffectsJson}
 
-pub effects_found : (s : State) (node : NodeId) (step events : ℕ) (nodes : List RollbackEffect) → rewind_answer s node.number step ≡ Ok events
-    → nodes ≡ rollback_effects s node.number step → IsEffectsJson s node step (listed_effects_json node step events nodes)
-effects_found s node step events nodes answer is =
-    inl (ap (listed_effects_json node step events) is ∙ ap (λ (r : Result ℕ LabFault). effects_json s node step (rollback_effects s node.number step) r) (sym answer))
+pub effects_found : (notes : Option DebugInfo) (s : State) (node : NodeId) (step events : ℕ) (nodes : List RollbackEffect) → rewind_answer s node.number step ≡ Ok events
+    → nodes ≡ rollback_effects s node.number step → IsEffectsJson notes s node step (listed_effects_json notes s node step events nodes)
+effects_found notes s node step events nodes answer is =
+    inl (ap (listed_effects_json notes s node step events) is ∙ ap (λ (r : Result ℕ LabFault). effects_json notes s node step (rollback_effects s node.number step) r) (sym answer))
 
-pub effects_refused : (s : State) (node : NodeId) (step : ℕ) (why : LabFault)
-    → (rewind_answer s node.number step ≡ Err why) ⊎ ((why ≡ Memory) × IsOk (rewind_answer s node.number step)) → IsEffectsJson s node step (step_refusal_json (codes "effects") node (count_steps node.number s.kept) why)
-effects_refused s node step why (inl answer) =
-    inl (ap (λ (r : Result ℕ LabFault). effects_json s node step (rollback_effects s node.number step) r) (sym answer))
-effects_refused s node step why (inr memory) = inr (memory.1, ap (step_refusal_json (codes "effects") node (count_steps node.number s.kept)) memory.0)
+pub effects_refused : (notes : Option DebugInfo) (s : State) (node : NodeId) (step : ℕ) (why : LabFault)
+    → (rewind_answer s node.number step ≡ Err why) ⊎ ((why ≡ Memory) × IsOk (rewind_answer s node.number step)) → IsEffectsJson notes s node step (step_refusal_json (codes "effects") node (count_steps node.number s.kept) why)
+effects_refused notes s node step why (inl answer) =
+    inl (ap (λ (r : Result ℕ LabFault). effects_json notes s node step (rollback_effects s node.number step) r) (sym answer))
+effects_refused notes s node step why (inr memory) = inr (memory.1, ap (step_refusal_json (codes "effects") node (count_steps node.number s.kept)) memory.0)

@@ -3,13 +3,12 @@ use Rattle.std.proofs.Common.{◌≡◌, ℕ, List, [], ◌∷◌, ◌++◌, Boo
 use Rattle.std.specs.Prelude.{flat_map, pos, Option, Some, None, Result, Ok, Err}
 use Rattle.std.specs.List.{AllByRecursion}
 use Rattle.std.specs.Str.{IsUtf8}
-use Rattle.std.specs.Fmt.{digits}
 use Rattle.std.proofs.lemmas.List.{append-nil}
 use Rattle.std.proofs.lemmas.Grind.{flat_map-append}
 use Rattle.ga_text.specs.Lines.{Bytes, Text, Line, lines_of}
 use Rattle.ga_text.specs.declared.output.WriteError.{WriteError}
 use Rattle.ga_json.specs.Values.{JsonValue, null, number, string}
-use Rattle.ga_json.specs.Compact.{json_line}
+use Rattle.ga_json.specs.Compact.{digits_by_division, IsWritableValue, json_line}
 use Rattle.ga_json.specs.FieldValues.{optional_number_json}
 use Rattle.ga_json.specs.Fields.{json_object}
 use Rattle.ga_json.specs.Diagnostics.{text_after_word, without_leading_word, diagnostic_parts, word_if_warning, diagnostic_object, diagnostic_objects, diagnostics_json}
@@ -23,7 +22,8 @@ use Rattle.ga_explorer.specs.Session.{session_status}
 use Rattle.ga_explorer_json.specs.JsonLines.{HasJsonText, IsJsonTextLine, AreJsonTextLines, IsJsonOrQuits, WritesJsonTextLines}
 use Rattle.ga_explorer_json.specs.Session.{ready_json, limit_refusal_line, AnswersJsonAndContinues, AnswersJsonAndEndsSession, RunsJsonExplorer}
 use Rattle.ga_explorer_json.specs.Session.RunsJsonExplorer.{served, unbegun}
-use Rattle.ga_explorer_json.proofs.Utf8Values.{is_low, plain, HasUtf8Texts, has_json_text, checked_text, members_of, have_low_names, object_by}
+use Rattle.ga_json.proofs.Written.{line_is_json}
+use Rattle.ga_explorer_json.proofs.Utf8Values.{is_low, plain, checked_text, members_of, have_low_names, object_by}
 use Rattle.ga_explorer_json.proofs.Utf8Answers.{line_answer}
 
 -- ---- lines, one after another
@@ -42,8 +42,8 @@ both_lines first more h k = (
   all_append h.0 k.0 h.2 k.2,
 )
 
-value_line : (value : JsonValue) → HasUtf8Texts value → AreJsonTextLines (json_line value)
-value_line value h = (value ∷ [], sym (append-nil (json_line value)), (has_json_text value h, tt))
+value_line : (value : JsonValue) → IsWritableValue value → AreJsonTextLines (json_line value)
+value_line value h = (value ∷ [], sym (append-nil (json_line value)), (line_is_json value h, tt))
 
 one_line : (answer : Text) → IsJsonTextLine answer → AreJsonTextLines answer
 one_line answer h = (h.0 ∷ [], h.1 ∙ sym (append-nil (json_line h.0)), (h.2, tt))
@@ -74,10 +74,10 @@ limit_json : JsonValue
 limit_json = json_object ((codes "command", null) ∷ (codes "refused", number (pos 33)) ∷ (codes "why", string (codes "input")) ∷ [])
 
 limit_is : limit_refusal_line ≡ json_line limit_json
-unfolding limit_json digits
+unfolding limit_json digits_by_division
 limit_is = refl
 
-limit_utf8 : HasUtf8Texts limit_json
+limit_utf8 : IsWritableValue limit_json
 unfolding limit_json is_low have_low_names
 limit_utf8 = object_by (members_of limit_json) refl (tt, (tt, (plain (codes "input") refl, tt)))
 
@@ -121,11 +121,11 @@ unfolding is_low
 word_utf8 None = plain (codes "refused") refl
 word_utf8 (Some text) = plain (codes "warning") refl
 
-line_number : (n : Option ℕ) → HasUtf8Texts (optional_number_json n)
+line_number : (n : Option ℕ) → IsWritableValue (optional_number_json n)
 line_number None = tt
 line_number (Some n) = tt
 
-diagnostic_utf8 : (file : Text) (line : Line) → HasUtf8Texts (diagnostic_object file line)
+diagnostic_utf8 : (file : Text) (line : Line) → IsWritableValue (diagnostic_object file line)
 unfolding is_low have_low_names
 diagnostic_utf8 file line =
     let reason = (diagnostic_parts line).1 in

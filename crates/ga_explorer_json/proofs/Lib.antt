@@ -1,4 +1,5 @@
 pub mod Around
+pub mod Appended
 pub mod Because
 pub mod Changes
 pub mod Effects

@@ -41,6 +41,7 @@ use Rattle.ga_explorer.specs.declared.commands.Query.{Query}
 use Rattle.ga_explorer.specs.declared.commands.Query.TheVariants as query
 use Rattle.ga_json.specs.Values.{JsonValue, number, string}
 use Rattle.ga_json.specs.Fields.{NamedValue}
+use Rattle.ga_json.specs.Compact.{IsWritableValue, AreWritableItems}
 use Rattle.ga_explorer_json.specs.Answers.{AnswersCommandJson, AnswersQueryJson, AnswersExplorerJson, IsLineRequest, AnswersLineRequest, AnswersJsonLine}
 use Rattle.ga_explorer_json.specs.Changes.{step_json, IsStepJson, removed_events_json, undo_json, rewind_json, held_condition_fields, run_end_fields, run_json}
 use Rattle.ga_explorer_json.specs.Events.{made_event_fields}
@@ -54,38 +55,38 @@ use Rattle.ga_explorer_json.specs.Steps.{event_json, trace_fields, trace_json, I
 use Rattle.ga_explorer_json.specs.Texts.{text_answer_json, line_refusal_json, long_line_json, syntax_json}
 use Rattle.ga_explorer_json.specs.declared.answers.LineRequest.{LineRequest}
 use Rattle.ga_explorer_json.specs.declared.answers.LineRequest.TheVariants as request
-use Rattle.ga_explorer_json.proofs.Utf8Values.{IsLow, is_low, low, low_utf8, plain, node_name, HasUtf8Texts, HaveUtf8Items, is_json_line, checked_text, optional_number, number_if_any, AreUtf8Fields, are_named, fields, fields_append, json_object_of_member, report_of, rows_of, members_of, have_low_names, object_by}
+use Rattle.ga_explorer_json.proofs.Utf8Values.{IsLow, is_low, low, low_utf8, plain, node_name, is_json_line, checked_text, optional_number, number_if_any, AreUtf8Fields, are_named, fields, fields_append, json_object_of_member, report_of, rows_of, members_of, have_low_names, object_by}
 use Rattle.ga_explorer_json.proofs.Utf8Rows.{hint_utf8, fault_word_utf8, fault_hint_utf8, lab_refusal, step_refusal, made_event, value}
 use Rattle.ga_explorer_json.proofs.Utf8Queries.{effects_utf8, words_utf8, writes_utf8, at_utf8, whence_utf8, because_utf8, races_utf8, activity_utf8, who_utf8}
 
 -- the same value
-as_value : (value other : JsonValue) → value ≡ other → HasUtf8Texts other → HasUtf8Texts value
-as_value value other e h = subst HasUtf8Texts (sym e) h
+as_value : (value other : JsonValue) → value ≡ other → IsWritableValue other → IsWritableValue value
+as_value value other e h = subst IsWritableValue (sym e) h
 
 -- ---- changes
 
-step_utf8 : (answer : Result Made LabFault) → HasUtf8Texts (step_json answer)
+step_utf8 : (answer : Result Made LabFault) → IsWritableValue (step_json answer)
 unfolding is_low are_named
 step_utf8 (Ok made) =
     let first : List NamedValue = (codes "command", string (codes "step")) ∷ [] in
     json_object_of_member (first ++ made_event_fields made) (fields_append first (made_event_fields made) (fields first refl (plain (codes "step") refl, tt)) (made_event made))
 step_utf8 (Err why) = lab_refusal (codes "step") why (plain (codes "step") refl)
 
-stepped_utf8 : (s : State) (node : NodeId) (new : State) (answer : JsonValue) → IsStepJson s node new answer → HasUtf8Texts answer
+stepped_utf8 : (s : State) (node : NodeId) (new : State) (answer : JsonValue) → IsStepJson s node new answer → IsWritableValue answer
 unfolding is_low
 stepped_utf8 s node new answer (inl h) = as_value answer (step_json (step_answer s node)) h.0 (step_utf8 (step_answer s node))
 stepped_utf8 s node new answer (inr h) = as_value answer _ h.1 (lab_refusal (codes "step") NoMemory (plain (codes "step") refl))
 
-removed_utf8 : (command : Text) (removed : Option ℕ) (kept : ℕ) → IsUtf8 command → HasUtf8Texts (removed_events_json command removed kept)
+removed_utf8 : (command : Text) (removed : Option ℕ) (kept : ℕ) → IsUtf8 command → IsWritableValue (removed_events_json command removed kept)
 unfolding is_low have_low_names
 removed_utf8 command removed kept h = object_by (members_of (removed_events_json command removed kept)) refl (h, (optional_number removed, (tt, tt)))
 
-undo_utf8 : (answer : Result (Unit {0}) LabFault) (kept : ℕ) → HasUtf8Texts (undo_json answer kept)
+undo_utf8 : (answer : Result (Unit {0}) LabFault) (kept : ℕ) → IsWritableValue (undo_json answer kept)
 unfolding is_low
 undo_utf8 (Ok done) kept = removed_utf8 (codes "back") (Some 1) kept (plain (codes "back") refl)
 undo_utf8 (Err why) kept = lab_refusal (codes "back") why (plain (codes "back") refl)
 
-rewind_utf8 : (node : NodeId) (count : ℕ) (answer : Result ℕ LabFault) (kept : ℕ) → HasUtf8Texts (rewind_json node count answer kept)
+rewind_utf8 : (node : NodeId) (count : ℕ) (answer : Result ℕ LabFault) (kept : ℕ) → IsWritableValue (rewind_json node count answer kept)
 unfolding is_low
 rewind_utf8 node count (Ok removed) kept = removed_utf8 (codes "rewind") (Some removed) kept (plain (codes "rewind") refl)
 rewind_utf8 node count (Err why) kept = step_refusal (codes "rewind") node count why (plain (codes "rewind") refl)
@@ -98,7 +99,7 @@ run_end_utf8 AllMade = fields (run_end_fields AllMade) refl (plain (codes "made"
 run_end_utf8 Quiet = fields (run_end_fields Quiet) refl (plain (codes "quiet") refl, tt)
 run_end_utf8 (Refused why) = fields (run_end_fields (Refused why)) refl (fault_word_utf8 why, (fault_hint_utf8 why, tt))
 
-run_utf8 : (events : ℕ) (end : RunEnd) → HasUtf8Texts (run_json events end)
+run_utf8 : (events : ℕ) (end : RunEnd) → IsWritableValue (run_json events end)
 unfolding is_low are_named
 run_utf8 events end =
     let first : List NamedValue = (codes "command", string (codes "run")) ∷ (codes "events", number (pos events)) ∷ [] in
@@ -106,13 +107,13 @@ run_utf8 events end =
 
 -- ---- readings
 
-stack_from : (at : NodeRecord) (k more : ℕ) → HaveUtf8Items (stack_rows at k more)
+stack_from : (at : NodeRecord) (k more : ℕ) → AreWritableItems (stack_rows at k more)
 unfolding stack_rows
 stack_from at k zero = tt
 stack_from at k (suc more) =
     (json_object_of_member (value_fields (stack_part k) (part_value 0 at (stack_part k))) (value (stack_part k) (part_value 0 at (stack_part k))), stack_from at (k + 1) more)
 
-node_utf8 : (s : State) (node : NodeId) → HasUtf8Texts (node_json s node)
+node_utf8 : (s : State) (node : NodeId) → IsWritableValue (node_json s node)
 unfolding is_low are_named
 node_utf8 s node =
     let at = record_at (chip_of s) node.number in
@@ -123,18 +124,18 @@ node_utf8 s node =
     (fields (node_status_fields at) refl (activity_utf8 at.wait at.stop, (tt, (tt, (tt, (tt, (number_if_any at.stop, tt)))))))
     (fields (node_register_fields at) refl (tt, (tt, (tt, (tt, (tt, (tt, (tt, tt)))))))))) (stack_from at 0 19)
 
-memory_utf8 : (s : State) (node : NodeId) (address : ℕ) → HasUtf8Texts (memory_word_json s node address)
+memory_utf8 : (s : State) (node : NodeId) (address : ℕ) → IsWritableValue (memory_word_json s node address)
 unfolding is_low have_low_names
 memory_utf8 s node address = object_by (members_of (memory_word_json s node address)) refl (plain (codes "mem") refl, (node_name node, (tt, (tt, tt))))
 
-counts_utf8 : (s : State) → HasUtf8Texts (counts_json s)
+counts_utf8 : (s : State) → IsWritableValue (counts_json s)
 unfolding is_low have_low_names
 counts_utf8 s = object_by (members_of (counts_json s)) refl (plain (codes "count") refl, (tt, (tt, (tt, tt))))
 
-event_utf8 : (made : Made) → HasUtf8Texts (event_json made)
+event_utf8 : (made : Made) → IsWritableValue (event_json made)
 event_utf8 made = json_object_of_member (made_event_fields made) (made_event made)
 
-trace_utf8 : (s : State) (node : NodeId) (answer : JsonValue) → IsTraceJson s node answer → HasUtf8Texts answer
+trace_utf8 : (s : State) (node : NodeId) (answer : JsonValue) → IsTraceJson s node answer → IsWritableValue answer
 unfolding is_low are_named
 trace_utf8 s node answer (inl e) =
     as_value answer (trace_json node (history_of s node.number)) e
@@ -142,38 +143,38 @@ trace_utf8 s node answer (inl e) =
     (rows_of event_json event_utf8 (history_of s node.number)))
 trace_utf8 s node answer (inr e) = as_value answer _ e (lab_refusal (codes "trace") NoMemory (plain (codes "trace") refl))
 
-chain_utf8 : (leads : Bool) (events : List Made) → HasUtf8Texts (chain_json leads events)
+chain_utf8 : (leads : Bool) (events : List Made) → IsWritableValue (chain_json leads events)
 unfolding is_low are_named
 chain_utf8 leads events =
     report_of (chain_fields leads) (json_rows event_json events) (fields (chain_fields leads) refl (plain (codes "why") refl, (tt, tt))) (rows_of event_json event_utf8 events)
 
-linked_utf8 : (s : State) (node : NodeId) (links : Result (Option (List Link)) LabFault) (answer : JsonValue) → IsChainJson s node links answer → HasUtf8Texts answer
+linked_utf8 : (s : State) (node : NodeId) (links : Result (Option (List Link)) LabFault) (answer : JsonValue) → IsChainJson s node links answer → IsWritableValue answer
 unfolding is_low
 linked_utf8 s node (Ok None) answer e = as_value answer (chain_json false []) e (chain_utf8 false [])
 linked_utf8 s node (Ok (Some links)) answer h = as_value answer (chain_json true h.0) h.2 (chain_utf8 true h.0)
 linked_utf8 s node (Err why) answer e = as_value answer _ e (step_refusal (codes "why") node (count_steps node.number s.kept) why (plain (codes "why") refl))
 
-why_utf8 : (s : State) (from : NodeId) (k : ℕ) (to : NodeId) (j : ℕ) (answer : JsonValue) → IsWhyJson s from k to j answer → HasUtf8Texts answer
+why_utf8 : (s : State) (from : NodeId) (k : ℕ) (to : NodeId) (j : ℕ) (answer : JsonValue) → IsWhyJson s from k to j answer → IsWritableValue answer
 unfolding is_low
 why_utf8 s from k to j answer (inl h) = linked_utf8 s (node_without_step s from k to) (why_answer s from.number k to.number j) answer h
 why_utf8 s from k to j answer (inr h) = as_value answer _ h.1 (lab_refusal (codes "why") NoMemory (plain (codes "why") refl))
 
 -- ---- texts
 
-text_utf8 : (command text : Text) → IsUtf8 command → HasUtf8Texts (text_answer_json command text)
+text_utf8 : (command text : Text) → IsUtf8 command → IsWritableValue (text_answer_json command text)
 unfolding is_low have_low_names
 text_utf8 command text h = object_by (members_of (text_answer_json command text)) refl (h, (checked_text text, tt))
 
-dump_utf8 : (s : State) (answer : JsonValue) → IsDumpJson s answer → HasUtf8Texts answer
+dump_utf8 : (s : State) (answer : JsonValue) → IsDumpJson s answer → IsWritableValue answer
 unfolding is_low
 dump_utf8 s answer (inl e) = as_value answer _ e (text_utf8 (codes "dump") (printed_image (chip_of s)) (plain (codes "dump") refl))
 dump_utf8 s answer (inr e) = as_value answer _ e (lab_refusal (codes "dump") NoMemory (plain (codes "dump") refl))
 
-line_refusal : (code : ℕ) (why hint : Text) → IsUtf8 why → IsUtf8 hint → HasUtf8Texts (line_refusal_json code why hint)
+line_refusal : (code : ℕ) (why hint : Text) → IsUtf8 why → IsUtf8 hint → IsWritableValue (line_refusal_json code why hint)
 unfolding is_low have_low_names
 line_refusal code why hint a b = object_by (members_of (line_refusal_json code why hint)) refl (tt, (tt, (a, (b, tt))))
 
-long_utf8 : HasUtf8Texts long_line_json
+long_utf8 : IsWritableValue long_line_json
 unfolding is_low
 long_utf8 = line_refusal 32 (codes "long") (hint_of_refusal (worded_long_line_refusal Advised)) (plain (codes "long") refl) (hint_utf8 (worded_long_line_refusal Advised) (low (worded_long_line_refusal Advised) refl))
 
@@ -223,14 +224,14 @@ suggestion_low line =
     (λ _. cond_both (has_leading_or_trailing_blank line) blank _ IsLow (λ _. low blank refl)
     (λ _. cond_both (is_upper word) upper (suggested_form word) IsLow (λ _. low upper refl) (λ _. suggested_low word))))
 
-syntax_utf8 : (line : Line) → HasUtf8Texts (syntax_json line)
+syntax_utf8 : (line : Line) → IsWritableValue (syntax_json line)
 unfolding is_low
 syntax_utf8 line = line_refusal 31 (codes "syntax") (command_suggestion line) (plain (codes "syntax") refl) (low_utf8 (command_suggestion line) (suggestion_low line))
 
 -- ---- an answer
 
 -- the text is the line of a value of which this holds
-line_of : (IsAnswer : JsonValue → Type 0) (answer : Text) → ((value : JsonValue) → IsAnswer value → HasUtf8Texts value) → IsJsonLine IsAnswer answer → IsJsonTextLine answer
+line_of : (IsAnswer : JsonValue → Type 0) (answer : Text) → ((value : JsonValue) → IsAnswer value → IsWritableValue value) → IsJsonLine IsAnswer answer → IsJsonTextLine answer
 line_of IsAnswer answer each h = is_json_line h.0 answer h.2 (each h.0 h.1)
 
 command_answer : (s : State) (command : Command) (line answer : Text) (new : State) → SpellsCommand command line → AnswersCommandJson s command answer new → IsJsonOrQuits line answer
@@ -247,15 +248,15 @@ command_answer s Count line answer new is h = inr (is_json_line (counts_json s) 
 command_answer s Dump line answer new is h = inr (line_of (IsDumpJson s) answer (dump_utf8 s) h.0)
 command_answer s Quit line answer new is h = inl (is, h.0)
 
-query_utf8 : (e : ExplorerState) (asked : Query) (answer : JsonValue) → AnswersQueryJson e asked answer → HasUtf8Texts answer
+query_utf8 : (e : ExplorerState) (asked : Query) (answer : JsonValue) → AnswersQueryJson e asked answer → IsWritableValue answer
 unfolding is_low
-query_utf8 e (query.Effects node which) answer h = effects_utf8 e.lab node (selected_step e.lab node which) answer h
+query_utf8 e (query.Effects node which) answer h = effects_utf8 e.notes e.lab node (selected_step e.lab node which) answer h
 query_utf8 e (query.Words from to) answer h = as_value answer _ h (words_utf8 e.lab from to)
 query_utf8 e (query.Writes node address) answer h = as_value answer _ h (writes_utf8 e.lab node address)
-query_utf8 e (query.At node which around) answer h = as_value answer _ h (at_utf8 e.lab node (selected_step e.lab node which) around)
+query_utf8 e (query.At node which around) answer h = as_value answer _ h (at_utf8 e.notes e.lab node (selected_step e.lab node which) around)
 query_utf8 e (query.Whence node which queried first) answer h =
-    whence_utf8 e.lab node (selected_step e.lab node which) (option_and_then part_of_node_value queried) first answer h
-query_utf8 e (query.Because node which most) answer h = as_value answer _ h (because_utf8 e.lab node (selected_step e.lab node which) most)
+    whence_utf8 e.notes e.lab node (selected_step e.lab node which) (option_and_then part_of_node_value queried) first answer h
+query_utf8 e (query.Because node which most) answer h = as_value answer _ h (because_utf8 e.notes e.lab node (selected_step e.lab node which) most)
 query_utf8 e (query.Races only) answer h = races_utf8 e.lab only answer h
 query_utf8 e query.Who answer h = who_utf8 e.lab answer h
 query_utf8 e query.Chip answer h = as_value answer _ h.2 (text_utf8 (codes "chip") h.0 (plain (codes "chip") refl))

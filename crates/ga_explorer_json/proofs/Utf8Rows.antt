@@ -1,8 +1,9 @@
 -- The texts of refusals, and of the rows and fields of answers, are UTF-8.
-use Rattle.std.proofs.Common.{ℕ, ◌%◌, [], ◌∷◌, ◌++◌, true, codes, decimal, refl, arith}
-use Rattle.std.specs.Prelude.{◌==◌, if◌then◌else◌, pos}
-use Rattle.std.specs.Str.{IsUtf8}
-use Rattle.std.proofs.lemmas.Bool.{cond_both, agree_below_at}
+use Rattle.std.proofs.Common.{ℕ, ◌%◌, [], ◌∷◌, ◌++◌, length, drop, true, codes, decimal, refl, arith}
+use Rattle.std.specs.Prelude.{◌==◌, ◌&&◌, if◌then◌else◌, pos, Option, Some, None}
+use Rattle.std.specs.Str.{IsUtf8, is_utf8}
+use Rattle.std.proofs.lemmas.Bool.{cond_both, and_parts, agree_below_at}
+use Rattle.std.proofs.lemmas.Str.{IsUtf8-append, IsUtf8-from_is_utf8}
 use Rattle.ga_text.specs.Lines.{Text}
 use Rattle.ga_text.specs.Digits.{name_of_node}
 use Rattle.ga_slots.specs.Codes.{name_of, op_of_code}
@@ -16,11 +17,20 @@ use Rattle.ga_event.specs.declared.flow.part.NodePart.TheVariants as part
 use Rattle.ga_lab.specs.declared.fault.LabFault.{LabFault}
 use Rattle.ga_lab.specs.declared.fault.LabFault.TheVariants.{Waiting, Stopped, Full, Memory, Empty, NoStep, Spent}
 use Rattle.ga_display.specs.Texts.{advised_refusal_text, advised_step_refusal_text, missing_step_text, steps_word}
-use Rattle.ga_json.specs.Values.{number, string}
+use Rattle.ga_lab.specs.Machine.{State}
+use Rattle.ga_debug_info.specs.declared.notes.DebugInfo.{DebugInfo}
+use Rattle.ga_debug_info.specs.declared.wording.SlotWord.{SlotWord}
+use Rattle.ga_provenance.specs.declared.value.Value.{Value}
+use Rattle.ga_provenance.specs.Fetched.{fetched_cell}
+use Rattle.ga_explorer_text.specs.SourceSuffix.{cell_note_text, slot_note_text, slot_before_step, cell_of_node_part}
+use Rattle.ga_json.specs.Values.{null, number, string}
+use Rattle.ga_json.specs.FieldValues.{joined_text_json}
+use Rattle.ga_json.specs.Compact.{IsWritableValue}
 use Rattle.ga_explorer_json.specs.Events.{own_event_fields, pass_fields, action_fields, made_event_fields}
 use Rattle.ga_explorer_json.specs.Parts.{node_part_word, node_part_index, value_fields}
 use Rattle.ga_explorer_json.specs.Refusals.{text_after_byte, text_before_byte, hint_of_refusal, refusal_json, fault_code, fault_word, fault_hint, lab_refusal_json, step_refusal_json}
-use Rattle.ga_explorer_json.proofs.Utf8Values.{IsLow, is_low, low, low_append, low_utf8, plain, decimal_low, name_low, node_name, HasUtf8Texts, optional_number, AreUtf8Fields, are_named, fields, fields_append, json_object_of_member}
+use Rattle.ga_explorer_json.specs.Source.{source_word, word_line_json, word_column_json, source_text_json, source_fields, step_source_fields, value_source_fields}
+use Rattle.ga_explorer_json.proofs.Utf8Values.{IsLow, is_low, low, low_append, low_utf8, plain, decimal_low, name_low, node_name, optional_number, AreUtf8Fields, are_named, fields, fields_append, json_object_of_member}
 
 -- ---- refusals
 
@@ -78,16 +88,16 @@ fault_word_utf8 Spent = plain (codes "spent") refl
 pub fault_hint_utf8 : (why : LabFault) → IsUtf8 (fault_hint why)
 fault_hint_utf8 why = hint_utf8 (advised_refusal_text why) (advice_low why)
 
-pub refusal : (command : Text) (code : ℕ) (why hint : Text) → IsUtf8 command → IsUtf8 why → IsUtf8 hint → HasUtf8Texts (refusal_json command code why hint)
+pub refusal : (command : Text) (code : ℕ) (why hint : Text) → IsUtf8 command → IsUtf8 why → IsUtf8 hint → IsWritableValue (refusal_json command code why hint)
 unfolding is_low are_named
 refusal command code why hint a b c = json_object_of_member
     ((codes "command", string command) ∷ (codes "refused", number (pos code)) ∷ (codes "why", string why) ∷ (codes "hint", string hint) ∷ [])
     (fields ((codes "command", string command) ∷ (codes "refused", number (pos code)) ∷ (codes "why", string why) ∷ (codes "hint", string hint) ∷ []) refl (a, (tt, (b, (c, tt)))))
 
-pub lab_refusal : (command : Text) (why : LabFault) → IsUtf8 command → HasUtf8Texts (lab_refusal_json command why)
+pub lab_refusal : (command : Text) (why : LabFault) → IsUtf8 command → IsWritableValue (lab_refusal_json command why)
 lab_refusal command why h = refusal command (fault_code why) (fault_word why) (fault_hint why) h (fault_word_utf8 why) (fault_hint_utf8 why)
 
-pub step_refusal : (command : Text) (node : NodeId) (count : ℕ) (why : LabFault) → IsUtf8 command → HasUtf8Texts (step_refusal_json command node count why)
+pub step_refusal : (command : Text) (node : NodeId) (count : ℕ) (why : LabFault) → IsUtf8 command → IsWritableValue (step_refusal_json command node count why)
 step_refusal command node count why h =
     refusal command (fault_code why) (fault_word why) (hint_of_refusal (advised_step_refusal_text node count why)) h (fault_word_utf8 why)
     (hint_utf8 (advised_step_refusal_text node count why) (step_advice_low node count why))
@@ -144,3 +154,36 @@ part_utf8 part.Outside = plain (codes "outside") refl
 pub value : (at : NodePart) (word : ℕ) → AreUtf8Fields (value_fields at word)
 unfolding is_low are_named
 value at word = fields (value_fields at word) refl (part_utf8 at, (optional_number (node_part_index at), (tt, tt)))
+
+-- ---- the source of a step
+
+line_number : (word : Option SlotWord) → IsWritableValue (word_line_json word)
+line_number None = tt
+line_number (Some word) = tt
+
+column_number : (word : Option SlotWord) → IsWritableValue (word_column_json word)
+column_number None = tt
+column_number (Some word) = tt
+
+joined_text : (front rest : Text) → IsWritableValue (joined_text_json front rest)
+joined_text front rest =
+    cond_both (is_utf8 front && is_utf8 rest) (string (front ++ rest)) null IsWritableValue
+    (λ e. let parts = and_parts (is_utf8 front) (is_utf8 rest) e in IsUtf8-append front rest (IsUtf8-from_is_utf8 front parts.0) (IsUtf8-from_is_utf8 rest parts.1)) (λ _. tt)
+
+source_text : (cell slot : Text) → IsWritableValue (source_text_json cell slot)
+source_text cell slot = cond_both (length cell == 0) null (joined_text_json (drop 3 cell) slot) IsWritableValue (λ _. tt) (λ _. joined_text (drop 3 cell) slot)
+
+pub cell_source : (notes : Option DebugInfo) (node : NodeId) (cell : Option ℕ) (slot : ℕ) → AreUtf8Fields (source_fields notes node cell slot)
+unfolding is_low are_named
+cell_source notes node cell slot =
+    let word = source_word notes node cell slot in
+    fields (source_fields notes node cell slot) refl
+    (line_number word, (column_number word, (source_text (cell_note_text notes node cell) (slot_note_text notes node cell slot), tt)))
+
+pub step_source : (notes : Option DebugInfo) (s : State) (node : NodeId) (step : ℕ) → AreUtf8Fields (step_source_fields notes s node step)
+step_source notes s node step = cell_source notes node (fetched_cell s node step) (slot_before_step s node step)
+
+pub value_source : (notes : Option DebugInfo) (s : State) (value : Value) → AreUtf8Fields (value_source_fields notes s value)
+value_source notes s value =
+    cond_both (value.step == 0) (source_fields notes value.node (cell_of_node_part value.part) 4) (step_source_fields notes s value.node value.step) AreUtf8Fields
+    (λ _. cell_source notes value.node (cell_of_node_part value.part) 4) (λ _. step_source notes s value.node value.step)

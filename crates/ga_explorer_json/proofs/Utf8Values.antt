@@ -1,4 +1,4 @@
--- Values whose texts are UTF-8: what they are made of. The line of one is JSON if its integers have 64 bits.
+-- Values whose texts are UTF-8: what they are made of. The line of one is JSON.
 use Rattle.std.proofs.Common.{◌≡◌, ◌<◌, ℕ, zero, suc, ◌+◌, ◌/◌, ◌%◌, List, [], ◌∷◌, ◌++◌, Bool, true, false, codes, decimal, arith}
 use Rattle.std.specs.Prelude.{◌==◌, ◌&&◌, nat_lt, pos, Option, Some, None}
 use Rattle.std.specs.List.{AllByRecursion}
@@ -17,7 +17,7 @@ use Rattle.ga_json.specs.Fields.{NamedValue, with_members, json_object, json_rep
 use Rattle.ga_json.proofs.Written.{line_is_json, rows_name}
 use Rattle.ga_explorer_json.specs.Parts.{number_or_null, number_unless_zero}
 use Rattle.ga_explorer_json.specs.Rows.{json_rows}
-use Rattle.ga_explorer_json.specs.JsonLines.{HasIntegersOf64Bits, HaveItemsOf64Bits, HaveMembersOf64Bits, HasJsonText, IsJsonTextLine}
+use Rattle.ga_explorer_json.specs.JsonLines.{IsJsonTextLine}
 
 -- ---- ASCII
 
@@ -74,60 +74,23 @@ node_name node = number_name node.number node.in_range
 
 -- ---- values
 
-abbrev mutual
-  pub HasUtf8Texts : JsonValue → Type 0
-  HasUtf8Texts null = Unit {0}
-  HasUtf8Texts (boolean b) = Unit {0}
-  HasUtf8Texts (number z) = Unit {0}
-  HasUtf8Texts (string bytes) = IsUtf8 bytes
-  HasUtf8Texts (array items) = HaveUtf8Items items
-  HasUtf8Texts (object members) = HaveUtf8Members members
+pub is_json_line : (value : JsonValue) (answer : Text) → answer ≡ json_line value → IsWritableValue value → IsJsonTextLine answer
+is_json_line value answer e h = (value, e, line_is_json value h)
 
-  pub HaveUtf8Items : JsonItems → Type 0
-  HaveUtf8Items no_items = Unit {0}
-  HaveUtf8Items (item value items) = HasUtf8Texts value × HaveUtf8Items items
+pub checked_text : (text : Text) → IsWritableValue (text_json text)
+checked_text text = cond_both (is_utf8 text) (string text) null IsWritableValue (λ e. IsUtf8-from_is_utf8 text e) (λ _. tt)
 
-  pub HaveUtf8Members : JsonMembers → Type 0
-  HaveUtf8Members no_members = Unit {0}
-  HaveUtf8Members (member name value members) = IsUtf8 name × HasUtf8Texts value × HaveUtf8Members members
-
-mutual
-  writable : (value : JsonValue) → HasUtf8Texts value → HasIntegersOf64Bits value → IsWritableValue value
-  writable null h k = tt
-  writable (boolean b) h k = tt
-  writable (number z) h k = k
-  writable (string bytes) h k = h
-  writable (array items) h k = writable_items items h k
-  writable (object members) h k = writable_members members h k
-
-  writable_items : (items : JsonItems) → HaveUtf8Items items → HaveItemsOf64Bits items → AreWritableItems items
-  writable_items no_items h k = tt
-  writable_items (item value items) h k = (writable value h.0 k.0, writable_items items h.1 k.1)
-
-  writable_members : (members : JsonMembers) → HaveUtf8Members members → HaveMembersOf64Bits members → AreWritableMembers members
-  writable_members no_members h k = tt
-  writable_members (member name value members) h k = (h.0, writable value h.1 k.0, writable_members members h.2 k.1)
-
-pub has_json_text : (value : JsonValue) → HasUtf8Texts value → HasJsonText value
-has_json_text value h k = line_is_json value (writable value h k)
-
-pub is_json_line : (value : JsonValue) (answer : Text) → answer ≡ json_line value → HasUtf8Texts value → IsJsonTextLine answer
-is_json_line value answer e h = (value, e, has_json_text value h)
-
-pub checked_text : (text : Text) → HasUtf8Texts (text_json text)
-checked_text text = cond_both (is_utf8 text) (string text) null HasUtf8Texts (λ e. IsUtf8-from_is_utf8 text e) (λ _. tt)
-
-pub optional_number : (n : Option ℕ) → HasUtf8Texts (number_or_null n)
+pub optional_number : (n : Option ℕ) → IsWritableValue (number_or_null n)
 optional_number None = tt
 optional_number (Some n) = tt
 
-pub number_if_any : (n : ℕ) → HasUtf8Texts (number_unless_zero n)
-number_if_any n = cond_both (n == 0) null (number (pos n)) HasUtf8Texts (λ _. tt) (λ _. tt)
+pub number_if_any : (n : ℕ) → IsWritableValue (number_unless_zero n)
+number_if_any n = cond_both (n == 0) null (number (pos n)) IsWritableValue (λ _. tt) (λ _. tt)
 
 -- ---- fields, and rows
 
 abbrev IsUtf8Field : NamedValue → Type 0
-IsUtf8Field field = IsUtf8 field.0 × HasUtf8Texts field.1
+IsUtf8Field field = IsUtf8 field.0 × IsWritableValue field.1
 
 abbrev pub AreUtf8Fields : List NamedValue → Type 0
 AreUtf8Fields fields = AllByRecursion IsUtf8Field fields
@@ -137,7 +100,7 @@ are_named [] = true
 are_named (field ∷ fields) = is_low field.0 && are_named fields
 
 -- fields whose names are written out, with these values
-pub fields : (named : List NamedValue) → are_named named ≡ true → AllByRecursion (λ field. HasUtf8Texts field.1) named → AreUtf8Fields named
+pub fields : (named : List NamedValue) → are_named named ≡ true → AllByRecursion (λ field. IsWritableValue field.1) named → AreUtf8Fields named
 unfolding are_named
 fields [] h k = tt
 fields (field ∷ named) h k =
@@ -147,17 +110,17 @@ pub fields_append : (first more : List NamedValue) → AreUtf8Fields first → A
 fields_append [] more h k = k
 fields_append (field ∷ first) more h k = (h.0, fields_append first more h.1 k)
 
-members : (named : List NamedValue) (more : JsonMembers) → AreUtf8Fields named → HaveUtf8Members more → HaveUtf8Members (with_members named more)
+members : (named : List NamedValue) (more : JsonMembers) → AreUtf8Fields named → AreWritableMembers more → AreWritableMembers (with_members named more)
 members [] more h k = k
 members (field ∷ named) more h k = (h.0.0, h.0.1, members named more h.1 k)
 
-pub json_object_of_member : (named : List NamedValue) → AreUtf8Fields named → HasUtf8Texts (json_object named)
+pub json_object_of_member : (named : List NamedValue) → AreUtf8Fields named → IsWritableValue (json_object named)
 json_object_of_member named h = members named no_members h tt
 
-pub report_of : (head : List NamedValue) (rows : JsonItems) → AreUtf8Fields head → HaveUtf8Items rows → HasUtf8Texts (json_report head rows)
+pub report_of : (head : List NamedValue) (rows : JsonItems) → AreUtf8Fields head → AreWritableItems rows → IsWritableValue (json_report head rows)
 report_of head rows h k = members head (member (codes "rows") (array rows) no_members) h (rows_name, k, tt)
 
-pub rows_of : {A : Type 0} (row : A → JsonValue) → ((x : A) → HasUtf8Texts (row x)) → (xs : List A) → HaveUtf8Items (json_rows row xs)
+pub rows_of : {A : Type 0} (row : A → JsonValue) → ((x : A) → IsWritableValue (row x)) → (xs : List A) → AreWritableItems (json_rows row xs)
 rows_of row each [] = tt
 rows_of row each (x ∷ xs) = (each x, rows_of row each xs)
 
@@ -170,13 +133,13 @@ members_of _ = no_members
 
 abbrev pub HaveUtf8Values : JsonMembers → Type 0
 HaveUtf8Values no_members = Unit {0}
-HaveUtf8Values (member name value named) = HasUtf8Texts value × HaveUtf8Values named
+HaveUtf8Values (member name value named) = IsWritableValue value × HaveUtf8Values named
 
 unfoldable pub have_low_names : JsonMembers → Bool
 have_low_names no_members = true
 have_low_names (member name value named) = is_low name && have_low_names named
 
-pub object_by : (named : JsonMembers) → have_low_names named ≡ true → HaveUtf8Values named → HaveUtf8Members named
+pub object_by : (named : JsonMembers) → have_low_names named ≡ true → HaveUtf8Values named → AreWritableMembers named
 unfolding have_low_names
 object_by no_members h k = tt
 object_by (member name value named) h k = let parts = and_parts (is_low name) (have_low_names named) h in (plain name parts.0, k.0, object_by named parts.1 k.1)

@@ -1,6 +1,7 @@
 -- What the calls of `whence` mean for its answer.
 use Rattle.std.proofs.Common.{◌≡◌, ◌≤◌, ℕ, Bool, true, false, List, length, Option, Some, codes, ap, subst, refl, inl, inr}
 use Rattle.ga_grid.specs.declared.node_id.NodeId.{NodeId}
+use Rattle.ga_debug_info.specs.declared.notes.DebugInfo.{DebugInfo}
 use Rattle.ga_event.specs.declared.flow.part.NodePart.{NodePart}
 use Rattle.ga_event.specs.Told.{count_steps}
 use Rattle.ga_lab.specs.Machine.{State, has_step}
@@ -13,23 +14,23 @@ use Rattle.ga_json.specs.Values.{JsonValue}
 use Rattle.ga_explorer_json.specs.Refusals.{step_refusal_json}
 use Rattle.ga_explorer_json.specs.Whence.{provenance_lines_json, IsValueJson, IsWhenceJson}
 
-pub whence_nowhere : (s : State) (node : NodeId) (step : ℕ) (at : Option NodePart) (first : ℕ) → has_step s node.number step ≡ false
-    → IsWhenceJson s node step at first (step_refusal_json (codes "whence") node (count_steps node.number s.kept) NoStep)
-whence_nowhere s node step at first e = inl (e, refl)
+pub whence_nowhere : (notes : Option DebugInfo) (s : State) (node : NodeId) (step : ℕ) (at : Option NodePart) (first : ℕ) → has_step s node.number step ≡ false
+    → IsWhenceJson notes s node step at first (step_refusal_json (codes "whence") node (count_steps node.number s.kept) NoStep)
+whence_nowhere notes s node step at first e = inl (e, refl)
 
-pub whence_here : (s : State) (node : NodeId) (step : ℕ) (at : Option NodePart) (first : ℕ) (value : Option Value) (answer : JsonValue) → has_step s node.number step ≡ true
-    → value ≡ selected_value s node step at → IsValueJson s node step first value answer → IsWhenceJson s node step at first answer
-whence_here s node step at first value answer e is h = inr (e, subst (λ o. IsValueJson s node step first o answer) is h)
+pub whence_here : (notes : Option DebugInfo) (s : State) (node : NodeId) (step : ℕ) (at : Option NodePart) (first : ℕ) (value : Option Value) (answer : JsonValue) → has_step s node.number step ≡ true
+    → value ≡ selected_value s node step at → IsValueJson notes s node step first value answer → IsWhenceJson notes s node step at first answer
+whence_here notes s node step at first value answer e is h = inr (e, subst (λ o. IsValueJson notes s node step first o answer) is h)
 
-pub lines_found : (s : State) (node : NodeId) (step first : ℕ) (value : Value) (lines written : List ProvenanceLine) (is_whole : Bool) → written ≡ lines
+pub lines_found : (notes : Option DebugInfo) (s : State) (node : NodeId) (step first : ℕ) (value : Value) (lines written : List ProvenanceLine) (is_whole : Bool) → written ≡ lines
     → AreProvenanceLinesOf s value lines is_whole → length lines ≤ last_written_line first → (is_whole ≡ false → length lines ≡ last_written_line first)
-    → IsValueJson s node step first (Some value) (provenance_lines_json s node step first value written is_whole)
-lines_found s node step first value lines written is_whole same told most cut =
+    → IsValueJson notes s node step first (Some value) (provenance_lines_json notes s node step first value written is_whole)
+lines_found notes s node step first value lines written is_whole same told most cut =
     inr (record {
       lines = lines;
       is_whole = is_whole;
       told = told;
       most = most;
       cut = cut;
-      json = ap (λ (z : List ProvenanceLine). provenance_lines_json s node step first value z is_whole) same;
+      json = ap (λ (z : List ProvenanceLine). provenance_lines_json notes s node step first value z is_whole) same;
     })

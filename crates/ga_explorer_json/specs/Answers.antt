@@ -59,13 +59,13 @@ AnswersCommandJson s Quit answer new = (answer ≡ []) × (new ≡ s)
 
 -- a query; of one without rows the text
 abbrev pub AnswersQueryJson : ExplorerState → Query → JsonValue → Type 0
-AnswersQueryJson e (query.Effects node which) answer = IsEffectsJson e.lab node (selected_step e.lab node which) answer
+AnswersQueryJson e (query.Effects node which) answer = IsEffectsJson e.notes e.lab node (selected_step e.lab node which) answer
 AnswersQueryJson e (query.Words from to) answer = answer ≡ words_json e.lab from to
 AnswersQueryJson e (query.Writes node address) answer = answer ≡ writes_json e.lab node address
-AnswersQueryJson e (query.At node which around) answer = answer ≡ at_json e.lab node (selected_step e.lab node which) around
+AnswersQueryJson e (query.At node which around) answer = answer ≡ at_json e.notes e.lab node (selected_step e.lab node which) around
 AnswersQueryJson e (query.Whence node which value first) answer =
-    IsWhenceJson e.lab node (selected_step e.lab node which) (option_and_then part_of_node_value value) first answer
-AnswersQueryJson e (query.Because node which most) answer = answer ≡ because_json e.lab node (selected_step e.lab node which) most
+    IsWhenceJson e.notes e.lab node (selected_step e.lab node which) (option_and_then part_of_node_value value) first answer
+AnswersQueryJson e (query.Because node which most) answer = answer ≡ because_json e.notes e.lab node (selected_step e.lab node which) most
 AnswersQueryJson e (query.Races only) answer = IsRacesJson e.lab only answer
 AnswersQueryJson e query.Who answer = IsWhoJson e.lab answer
 AnswersQueryJson e query.Chip answer = IsQueryText (codes "chip") e query.Chip answer

@@ -10,11 +10,13 @@ use Rattle.ga_lab.specs.Machine.{State, has_step, history_of}
 use Rattle.ga_lab.specs.declared.fault.LabFault.TheVariants.{NoStep}
 use Rattle.ga_provenance.specs.Origins.{node_after_steps}
 use Rattle.ga_text.specs.Digits.{name_of_node}
+use Rattle.ga_debug_info.specs.declared.notes.DebugInfo.{DebugInfo}
 use Rattle.ga_json.specs.Values.{JsonValue, number, string, JsonItems, no_items}
 use Rattle.ga_json.specs.Fields.{NamedValue, json_object, json_report}
 use Rattle.ga_explorer_json.specs.Events.{action_fields}
 use Rattle.ga_explorer_json.specs.Refusals.{step_refusal_json}
 use Rattle.ga_explorer_json.specs.Rows.{rows_if_first_present}
+use Rattle.ga_explorer_json.specs.Source.{step_source_fields}
 
 -- the registers after a step: T, S, R, A, B and P
 abbrev pub register_fields : NodeRecord → List NamedValue
@@ -31,29 +33,31 @@ register_fields node =
 abbrev pub step_fields : ℕ → NodeRecord → Made → List NamedValue
 step_fields step after made = ((codes "step", number (pos step)) ∷ action_fields made) ++ register_fields after
 
-abbrev pub numbered_step_json : ℕ → NodeRecord → Made → JsonValue
-numbered_step_json step after made = json_object (step_fields step after made)
+-- and what the source has for it
+abbrev pub numbered_step_json : Option DebugInfo → State → NodeId → ℕ → NodeRecord → Made → JsonValue
+numbered_step_json notes s node step after made = json_object (step_fields step after made ++ step_source_fields notes s node step)
 
 -- the step of this number of the node, if it exists
-abbrev pub step_json_at : State → ℕ → ℕ → Option JsonValue
-step_json_at s n step = option_map (numbered_step_json step (node_after_steps s n step)) (slice_get (history_of s n) (step - 1))
+abbrev pub step_json_at : Option DebugInfo → State → NodeId → ℕ → Option JsonValue
+step_json_at notes s node step =
+    option_map (numbered_step_json notes s node step (node_after_steps s node.number step)) (slice_get (history_of s node.number) (step - 1))
 
 -- at most some steps of the node, from the step after the first `k` on
-unfoldable pub step_rows : State → ℕ → ℕ → ℕ → JsonItems
-step_rows s n k zero = no_items
-step_rows s n k (suc more) = rows_if_first_present (step_json_at s n (k + 1)) (step_rows s n (k + 1) more)
+unfoldable pub step_rows : Option DebugInfo → State → NodeId → ℕ → ℕ → JsonItems
+step_rows notes s node k zero = no_items
+step_rows notes s node k (suc more) = rows_if_first_present (step_json_at notes s node (k + 1)) (step_rows notes s node (k + 1) more)
 
 abbrev pub at_answer_fields : NodeId → ℕ → List NamedValue
 at_answer_fields node step = (codes "command", string (codes "at")) ∷ (codes "node", string (name_of_node node)) ∷ (codes "step", number (pos step)) ∷ []
 
 -- the steps of a node up to `around` before and after one
-abbrev pub step_rows_around : State → NodeId → ℕ → ℕ → JsonItems
-step_rows_around s node step around =
-    let first = step - 1 - around in step_rows s node.number first (min (step + around) (count_steps node.number s.kept) - first)
+abbrev pub step_rows_around : Option DebugInfo → State → NodeId → ℕ → ℕ → JsonItems
+step_rows_around notes s node step around =
+    let first = step - 1 - around in step_rows notes s node first (min (step + around) (count_steps node.number s.kept) - first)
 
-abbrev pub steps_around_json : State → NodeId → ℕ → ℕ → JsonValue
-steps_around_json s node step around = json_report (at_answer_fields node step) (step_rows_around s node step around)
+abbrev pub steps_around_json : Option DebugInfo → State → NodeId → ℕ → ℕ → JsonValue
+steps_around_json notes s node step around = json_report (at_answer_fields node step) (step_rows_around notes s node step around)
 
 -- these, if the step exists
-abbrev pub at_json : State → NodeId → ℕ → ℕ → JsonValue
-at_json s node step around = if has_step s node.number step then steps_around_json s node step around else step_refusal_json (codes "at") node (count_steps node.number s.kept) NoStep
+abbrev pub at_json : Option DebugInfo → State → NodeId → ℕ → ℕ → JsonValue
+at_json notes s node step around = if has_step s node.number step then steps_around_json notes s node step around else step_refusal_json (codes "at") node (count_steps node.number s.kept) NoStep

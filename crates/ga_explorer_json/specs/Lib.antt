@@ -15,6 +15,7 @@ pub mod Who
 pub mod Words
 pub mod Writes
 pub mod Texts
+pub mod Source
 pub mod Steps
 pub mod Answers
 pub mod Session

@@ -1,5 +1,5 @@
 -- What only private contracts and proofs name.
-use Rattle.std.specs.Prelude.{◌≡◌, ◌&&◌, if◌then◌else◌, ◌++◌, codes, Bool, true, false, Option, Result, Ok, Err}
+use Rattle.std.specs.Prelude.{◌≡◌, ◌&&◌, if◌then◌else◌, List, [], ◌∷◌, ◌++◌, codes, Bool, true, false, Option, Result, Ok, Err}
 use Rattle.ga_text.specs.Lines.{Bytes, Text, Line}
 use Rattle.ga_text.specs.Output.{WritesSomeText}
 use Rattle.ga_text.specs.declared.output.Writer.{Writer}
@@ -8,11 +8,14 @@ use Rattle.ga_console.specs.declared.responder.LineAction.{LineAction}
 use Rattle.ga_console.specs.declared.responder.LineAction.TheVariants as turn
 use Rattle.ga_explorer.specs.Opening.{ExplorerState}
 use Rattle.ga_explorer.specs.declared.commands.Query.{Query}
+use Rattle.ga_json.specs.Fields.{NamedValue}
 use Rattle.ga_explorer_json.specs.Refusals.{text_after_byte, text_before_byte}
 use Rattle.ga_explorer_json.specs.Rows.{IsJsonLine}
 use Rattle.ga_explorer_json.specs.Answers.{AnswersQueryJson, AnswersLineRequest}
 use Rattle.ga_explorer_json.specs.Session.{is_json_refusal, AnswersJsonAndContinues, AnswersJsonAndEndsSession}
+use Rattle.ga_explorer_json.specs.Source.{word_line_json, word_column_json, source_text_json}
 use Rattle.ga_explorer_json.specs.declared.answers.LineRequest.{LineRequest}
+use Rattle.ga_explorer_json.specs.declared.source.StepSource.{StepSource}
 
 -- what is written is the answer of the query
 pub record IsToldJson {T W : Type 0} (result : Result T WriteError) (e : ExplorerState) (asked : Query) (contents : W → Option Bytes) (old new : Writer W) : Type 0 where
@@ -48,3 +51,12 @@ refusal_line_in rest =
     let word_on = text_after_byte 34 (text_after_byte 58 number_on) in
     let hint_on = text_after_byte 34 (text_after_byte 58 word_on) in
     codes "no " ++ text_before_byte 44 number_on ++ codes " " ++ text_before_byte 34 word_on ++ codes ": " ++ text_before_byte 34 hint_on ++ codes "\n"
+
+-- ---- the source of a step as fields
+
+abbrev pub fields_of_source : StepSource → List NamedValue
+fields_of_source source =
+    (codes "line", word_line_json source.word)
+    ∷ (codes "column", word_column_json source.word)
+    ∷ (codes "source", source_text_json source.cell.now source.slot.now)
+    ∷ []

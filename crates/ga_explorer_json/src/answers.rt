@@ -160,13 +160,13 @@ fn answer_query_for_json<W: Write>(
     match asked {
         Query::Effects { node, which } => {
             let step = which.resolve(lab, node);
-            write_effects_json(alloc, lab, node, step, writer)
+            write_effects_json(alloc, lab, notes, node, step, writer)
         }
         Query::Words { from, to } => write_link_words_json(lab, from, to, writer),
         Query::Writes { node, address } => write_cell_writes_json(lab, node, address, writer),
         Query::At { node, which, most } => {
             let step = which.resolve(lab, node);
-            write_at_json(lab, node, step, most, writer)
+            write_at_json(lab, notes, node, step, most, writer)
         }
         Query::Whence {
             node,
@@ -175,11 +175,20 @@ fn answer_query_for_json<W: Write>(
             first,
         } => {
             let step = which.resolve(lab, node);
-            write_whence_json(alloc, lab, node, step, part_of_value(value), first, writer)
+            write_whence_json(
+                alloc,
+                lab,
+                notes,
+                node,
+                step,
+                part_of_value(value),
+                first,
+                writer,
+            )
         }
         Query::Because { node, which, most } => {
             let step = which.resolve(lab, node);
-            write_because_json(lab, node, step, most, writer)
+            write_because_json(lab, notes, node, step, most, writer)
         }
         Query::Races { only } => write_races_json(alloc, lab, only, writer),
         Query::Who => write_who_json(lab, writer),

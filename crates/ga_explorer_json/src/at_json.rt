@@ -7,12 +7,15 @@ ghost use Rattle.ga_event.specs.Told.{count_steps};
 ghost use Rattle.ga_lab.specs.Machine.{node_at_step};
 ghost use Rattle.ga_text.specs.Output.{WritesExactly};
 ghost use Rattle.ga_json.specs.Compact.{json_line};
-ghost use Rattle.ga_json.specs.Fields.{named_field_value, row_json};
-ghost use Rattle.ga_explorer_json.specs.Around.{register_fields, numbered_step_json, step_json_at, step_rows, at_answer_fields, steps_around_json, at_json};
+ghost use Rattle.ga_json.specs.Fields.{named_field_value, row_json, json_object};
+ghost use Rattle.ga_explorer_json.specs.inner.{fields_of_source};
+ghost use Rattle.ga_explorer_json.specs.Around.{register_fields, step_fields, numbered_step_json, step_json_at, step_rows, at_answer_fields, steps_around_json, at_json};
 
 use crate::event::push_action;
 use crate::refusal::write_step_refusal;
 use crate::row::push_fields;
+use crate::source::{StepSource, source_fields, step_source};
+use ga_debug_info::DebugInfo;
 use ga_grid::NodeId;
 use ga_json::{Field, RowCursor, RowFields, row_fields, write_report};
 use ga_lab::{Lab, LabFault, Made, NodeWalk};
@@ -26,15 +29,16 @@ use std::io::Write;
 /// A write failed.
 pub fn write_at_json<W: Write>(
     lab: &Lab,
+    notes: &Option<DebugInfo>,
     node: NodeId,
     step: u32,
     around: u32,
     writer: &mut Writer<'_, W>,
 ) -> WriteResult
-    ensures { WritesExactly result (json_line (at_json lab.now node step around)) W.contents writer.old writer.new }
+    ensures { WritesExactly result (json_line (at_json notes.now lab.now node step around)) W.contents writer.old writer.new }
 {
     if lab.has_step((node, step)) {
-        write_steps_around(lab, node, step, around, writer)
+        write_steps_around(lab, notes, node, step, around, writer)
     } else {
         write_step_refusal(b"at", LabFault::NoStep, node, lab.steps(node), writer)
     }
@@ -43,18 +47,20 @@ pub fn write_at_json<W: Write>(
 /// Writes the steps around one that exists.
 fn write_steps_around<W: Write>(
     lab: &Lab,
+    notes: &Option<DebugInfo>,
     node: NodeId,
     step: u32,
     around: u32,
     writer: &mut Writer<'_, W>,
 ) -> WriteResult
     requires { 0 < step }
-    ensures { WritesExactly result (json_line (steps_around_json lab.now node step around)) W.contents writer.old writer.new }
+    ensures { WritesExactly result (json_line (steps_around_json notes.now lab.now node step around)) W.contents writer.old writer.new }
 {
     let head = at_answer_fields(node, step);
     let last = step.saturating_add(around).min(lab.steps(node));
     let mut rows = StepRows {
         lab,
+        notes,
         node,
         near: lab.walk(node, last),
         place: (step - 1).saturating_sub(around),
@@ -66,6 +72,7 @@ fn write_steps_around<W: Write>(
 #[derive(Drop)]
 struct StepRows<'l> {
     lab: &'l Lab,
+    notes: &'l Option<DebugInfo>,
     node: NodeId,
     near: NodeWalk<'l>,
     place: u32,
@@ -75,7 +82,7 @@ struct StepRows<'l> {
 impl<'l> RowCursor<'l> for StepRows<'l> {
     ghost use Rattle.std.specs.Prelude.{◌-◌};
 
-    ghost left = { λ rows. step_rows rows.lab.now rows.node.number rows.place (rows.near.step - rows.place) };
+    ghost left = { λ rows. step_rows rows.notes.now rows.lab.now rows.node rows.place (rows.near.step - rows.place) };
 
     fn next(&mut self) -> Option<RowFields<'l>> {
         let place = self.place;
@@ -85,35 +92,40 @@ impl<'l> RowCursor<'l> for StepRows<'l> {
         let mut there = self.near.copy();
         there.walk_back_to(place + 1);
         self.place = place + 1;
-        row_of_walk(self.lab, self.node, place + 1, &there)
+        row_of_walk(self.lab, self.notes, self.node, place + 1, &there)
     }
 }
 
 /// A step of a node, which is walked back to it.
 fn row_of_walk<'l>(
-    lab: &Lab,
+    lab: &'l Lab,
+    notes: &'l Option<DebugInfo>,
     node: NodeId,
     step: u32,
-    there: &NodeWalk<'_>,
+    there: &NodeWalk<'l>,
 ) -> Option<RowFields<'l>>
     requires some { 0 < step }
     requires within { step ≤ count_steps node.number lab.now.kept }
     requires walk { there.now ≡ node_at_step lab.now node step }
-    ensures { option_map (λ row. row_json row.items) result ≡ step_json_at lab.now node.number step }
+    ensures { option_map (λ row. row_json row.items) result ≡ step_json_at notes.now lab.now node step }
 {
     match lab.made_event_of_step(node, step - 1) {
-        Some(made) => Some(step_row(step, made, there.node())),
+        Some(made) => {
+            let source = step_source(lab, notes, there, node, node, step);
+            Some(step_row(step, made, there.node(), source))
+        }
         None => None,
     }
 }
 
-/// A step: its number, what it did, and the registers after it.
-fn step_row<'l>(step: u32, made: Made, after: &Node) -> RowFields<'l>
-    ensures { row_json result.items ≡ numbered_step_json step (record_of after.now) made }
+/// A step: its number, what it did, the registers after it, and what the source has for it.
+fn step_row<'l>(step: u32, made: Made, after: &Node, source: StepSource<'l>) -> RowFields<'l>
+    ensures { row_json result.items ≡ json_object (step_fields step (record_of after.now) made ++ fields_of_source source.entry) }
 {
     let mut row = row_fields(&[Field::number(b"step", u64::from(step))]);
     push_action(&mut row, made);
     push_fields(&mut row, &register_fields(after));
+    push_fields(&mut row, &source_fields(source));
     row
 }
 

@@ -8,6 +8,9 @@ ghost use Rattle.ga_explorer_json.specs.Rows.{json_rows, IsJsonLine};
 ghost use Rattle.ga_explorer_json.specs.Effects.{effect_json, effects_fields, listed_effects_json, IsEffectsJson};
 
 use crate::refusal::write_step_refusal;
+use crate::row::push_fields;
+use crate::source::{source_fields, step_source};
+use ga_debug_info::DebugInfo;
 use ga_grid::NodeId;
 use ga_json::{Field, RowCursor, RowFields, row_fields, write_report};
 use ga_lab::Lab;
@@ -23,16 +26,18 @@ use std::io::Write;
 pub fn write_effects_json<W: Write>(
     alloc: Global,
     lab: &mut Lab,
+    notes: &Option<DebugInfo>,
     node: NodeId,
     step: u32,
     writer: &mut Writer<'_, W>,
 ) -> WriteResult
-    ensures said { WritesSomeText result (IsJsonLine (IsEffectsJson lab.old node step)) W.contents writer.old writer.new }
+    ensures said { WritesSomeText result (IsJsonLine (IsEffectsJson notes.now lab.old node step)) W.contents writer.old writer.new }
     ensures same { lab.new ≡ lab.old }
 {
     match find_rollback_effects(alloc, lab, node, step) {
         Ok(effects) => {
-            write_listed_effects(node, step, effects.events, effects.nodes.as_slice(), writer)
+            let nodes = effects.nodes.as_slice();
+            write_listed_effects(lab, notes, node, step, effects.events, nodes, writer)
         }
         Err(fault) => write_step_refusal(b"effects", fault, node, lab.steps(node), writer),
     }
@@ -40,32 +45,41 @@ pub fn write_effects_json<W: Write>(
 
 /// Writes how many events would go, and what would go of each node.
 fn write_listed_effects<W: Write>(
+    lab: &Lab,
+    notes: &Option<DebugInfo>,
     node: NodeId,
     step: u32,
     events: u32,
     effects: &[RollbackEffect],
     writer: &mut Writer<'_, W>,
 ) -> WriteResult
-    ensures { WritesExactly result (json_line (listed_effects_json node step events effects.now)) W.contents writer.old writer.new }
+    ensures { WritesExactly result (json_line (listed_effects_json notes.now lab.now node step events effects.now)) W.contents writer.old writer.new }
 {
     let head = effects_fields(node, step, events, effects.len());
-    write_report(&head, &mut EffectRows { rest: effects }, writer)
+    let mut rows = EffectRows {
+        lab,
+        notes,
+        rest: effects,
+    };
+    write_report(&head, &mut rows, writer)
 }
 
 /// What would go of the nodes that are not written yet.
 #[derive(Drop)]
 struct EffectRows<'e> {
+    lab: &'e Lab,
+    notes: &'e Option<DebugInfo>,
     rest: &'e [RollbackEffect],
 }
 
 impl<'e> RowCursor<'e> for EffectRows<'e> {
-    ghost left = { λ rows. json_rows effect_json rows.rest.now };
+    ghost left = { λ rows. json_rows (effect_json rows.notes.now rows.lab.now) rows.rest.now };
 
     fn next(&mut self) -> Option<RowFields<'e>> {
         match self.rest.split_first() {
             Some((effect, rest)) => {
                 self.rest = rest;
-                Some(effect_row(*effect))
+                Some(effect_row(self.lab, self.notes, *effect))
             }
             None => None,
         }
@@ -85,13 +99,22 @@ fn effects_fields(node: NodeId, step: u32, events: u32, nodes: usize) -> [Field<
     ]
 }
 
-/// What would go of a node: its first step that would, and how many would.
-fn effect_row(effect: RollbackEffect) -> RowFields<'static>
-    ensures { row_json result.items ≡ effect_json effect }
+/// What would go of a node: its first step that would, how many would, and what the source has for that step.
+fn effect_row<'e>(
+    lab: &'e Lab,
+    notes: &'e Option<DebugInfo>,
+    effect: RollbackEffect,
+) -> RowFields<'e>
+    ensures { row_json result.items ≡ effect_json notes.now lab.now effect }
 {
-    row_fields(&[
-        Field::node(b"node", effect.node),
-        Field::number(b"first_step", u64::from(effect.first)),
-        Field::number(b"steps", u64::from(effect.steps)),
-    ])
+    let RollbackEffect { node, first, steps } = effect;
+    let mut row = row_fields(&[
+        Field::node(b"node", node),
+        Field::number(b"first_step", u64::from(first)),
+        Field::number(b"steps", u64::from(steps)),
+    ]);
+    let near = lab.walk(node, lab.steps(node));
+    let source = step_source(lab, notes, &near, node, node, first);
+    push_fields(&mut row, &source_fields(source));
+    row
 }

@@ -85,7 +85,7 @@ fn push_own_event<'a>(row: &mut RowFields<'a>, kind: OwnEventKind)
 }
 
 /// The name of the opcode with this code.
-fn opcode_name(code: u8) -> &'static [u8]
+pub(crate) fn opcode_name(code: u8) -> &'static [u8]
     ensures { result.now ≡ name_of (op_of_code (code % 32)) }
 {
     Op::from_code(code % 32).name().as_bytes()

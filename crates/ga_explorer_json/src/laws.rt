@@ -8,7 +8,7 @@ ghost use Rattle.ga_explorer_json.specs.Answers.{AnswersJsonLine};
 ghost use Rattle.ga_explorer_json.specs.JsonLines.{IsJsonOrQuits, WritesJsonTextLines};
 ghost use Rattle.ga_explorer_json.specs.Session.{RunsJsonExplorer};
 
-/// Each answer is a line that is a JSON text (RFC 8259) of a value, if the value's integers have 64 bits; `quit` has none.
+/// Each answer is a line that is a JSON text (RFC 8259) of a value; `quit` has none.
 pub fn answers_are_json()
     ensures { (e new : ExplorerState) (line : Line) (answer : Text) → AnswersJsonLine e line answer new → IsJsonOrQuits line answer }
 {}

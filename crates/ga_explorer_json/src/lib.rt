@@ -20,6 +20,8 @@ mod responder;
 mod row;
 mod run_json;
 mod session;
+mod source;
+mod source_value;
 mod steps_json;
 mod text_json;
 mod whence_json;

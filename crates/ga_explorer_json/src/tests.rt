@@ -91,12 +91,12 @@ fn effects_of_a_rollback(rt: HostRuntime) -> Result<(), Fail> {
     let mut stream = Vec::new(alloc);
     let mut writer = Writer::new(&mut stream);
     let node = NodeId::new(4);
-    assert!(rt; write_effects_json(alloc, &mut lab, node, 75, &mut writer).is_ok());
-    assert!(rt; write_effects_json(alloc, &mut lab, node, 1000, &mut writer).is_ok());
+    assert!(rt; write_effects_json(alloc, &mut lab, &None, node, 75, &mut writer).is_ok());
+    assert!(rt; write_effects_json(alloc, &mut lab, &None, node, 1000, &mut writer).is_ok());
     assert_text(
         &rt,
         &writer,
-        "{\"command\":\"effects\",\"node\":\"004\",\"step\":75,\"events\":82,\"nodes\":8,\"rows\":[{\"node\":\"000\",\"first_step\":76,\"steps\":2},{\"node\":\"001\",\"first_step\":72,\"steps\":11},{\"node\":\"002\",\"first_step\":77,\"steps\":13},{\"node\":\"003\",\"first_step\":70,\"steps\":13},{\"node\":\"004\",\"first_step\":75,\"steps\":19},{\"node\":\"005\",\"first_step\":59,\"steps\":15},{\"node\":\"006\",\"first_step\":74,\"steps\":12},{\"node\":\"007\",\"first_step\":143,\"steps\":10}]}\n{\"command\":\"effects\",\"refused\":6,\"why\":\"nostep\",\"hint\":\"004 has 93 steps\"}\n",
+        "{\"command\":\"effects\",\"node\":\"004\",\"step\":75,\"events\":82,\"nodes\":8,\"rows\":[{\"node\":\"000\",\"first_step\":76,\"steps\":2,\"line\":null,\"column\":null,\"source\":null},{\"node\":\"001\",\"first_step\":72,\"steps\":11,\"line\":null,\"column\":null,\"source\":null},{\"node\":\"002\",\"first_step\":77,\"steps\":13,\"line\":null,\"column\":null,\"source\":null},{\"node\":\"003\",\"first_step\":70,\"steps\":13,\"line\":null,\"column\":null,\"source\":null},{\"node\":\"004\",\"first_step\":75,\"steps\":19,\"line\":null,\"column\":null,\"source\":null},{\"node\":\"005\",\"first_step\":59,\"steps\":15,\"line\":null,\"column\":null,\"source\":null},{\"node\":\"006\",\"first_step\":74,\"steps\":12,\"line\":null,\"column\":null,\"source\":null},{\"node\":\"007\",\"first_step\":143,\"steps\":10,\"line\":null,\"column\":null,\"source\":null}]}\n{\"command\":\"effects\",\"refused\":6,\"why\":\"nostep\",\"hint\":\"004 has 93 steps\"}\n",
     );
     Ok(())
 }
@@ -124,13 +124,13 @@ fn steps_around_one(rt: HostRuntime) -> Result<(), Fail> {
     let lab = lab_after_run(&rt, alloc, FAULT, Schedule::round_robin(), 1000)?;
     let mut stream = Vec::new(alloc);
     let mut writer = Writer::new(&mut stream);
-    assert!(rt; write_at_json(&lab, NodeId::new(0), 8, 1, &mut writer).is_ok());
-    assert!(rt; write_at_json(&lab, NodeId::new(1), 10, 0, &mut writer).is_ok());
-    assert!(rt; write_at_json(&lab, NodeId::new(1), 11, 3, &mut writer).is_ok());
+    assert!(rt; write_at_json(&lab, &None, NodeId::new(0), 8, 1, &mut writer).is_ok());
+    assert!(rt; write_at_json(&lab, &None, NodeId::new(1), 10, 0, &mut writer).is_ok());
+    assert!(rt; write_at_json(&lab, &None, NodeId::new(1), 11, 3, &mut writer).is_ok());
     assert_text(
         &rt,
         &writer,
-        "{\"command\":\"at\",\"node\":\"000\",\"step\":8,\"rows\":[{\"step\":7,\"what\":\"run\",\"opcode\":\"2*\",\"t\":336,\"s\":87381,\"r\":87381,\"a\":0,\"b\":469,\"p\":4},{\"step\":8,\"what\":\"wait\",\"t\":336,\"s\":87381,\"r\":87381,\"a\":0,\"b\":469,\"p\":4},{\"step\":9,\"what\":\"pass\",\"from\":\"000\",\"from_step\":9,\"to\":\"001\",\"to_step\":5,\"word\":336,\"t\":87381,\"s\":87381,\"r\":87381,\"a\":0,\"b\":469,\"p\":4}]}\n{\"command\":\"at\",\"node\":\"001\",\"step\":10,\"rows\":[{\"step\":10,\"what\":\"stop\",\"stop\":2,\"t\":7,\"s\":87381,\"r\":87381,\"a\":336,\"b\":469,\"p\":4}]}\n{\"command\":\"at\",\"refused\":6,\"why\":\"nostep\",\"hint\":\"001 has 10 steps\"}\n",
+        "{\"command\":\"at\",\"node\":\"000\",\"step\":8,\"rows\":[{\"step\":7,\"what\":\"run\",\"opcode\":\"2*\",\"t\":336,\"s\":87381,\"r\":87381,\"a\":0,\"b\":469,\"p\":4,\"line\":null,\"column\":null,\"source\":null},{\"step\":8,\"what\":\"wait\",\"t\":336,\"s\":87381,\"r\":87381,\"a\":0,\"b\":469,\"p\":4,\"line\":null,\"column\":null,\"source\":null},{\"step\":9,\"what\":\"pass\",\"from\":\"000\",\"from_step\":9,\"to\":\"001\",\"to_step\":5,\"word\":336,\"t\":87381,\"s\":87381,\"r\":87381,\"a\":0,\"b\":469,\"p\":4,\"line\":null,\"column\":null,\"source\":null}]}\n{\"command\":\"at\",\"node\":\"001\",\"step\":10,\"rows\":[{\"step\":10,\"what\":\"stop\",\"stop\":2,\"t\":7,\"s\":87381,\"r\":87381,\"a\":336,\"b\":469,\"p\":4,\"line\":null,\"column\":null,\"source\":null}]}\n{\"command\":\"at\",\"refused\":6,\"why\":\"nostep\",\"hint\":\"001 has 10 steps\"}\n",
     );
     Ok(())
 }
@@ -174,12 +174,12 @@ fn decisions_before_a_step(rt: HostRuntime) -> Result<(), Fail> {
     let mut stream = Vec::new(alloc);
     let mut writer = Writer::new(&mut stream);
     let node = NodeId::new(7);
-    assert!(rt; write_because_json(&lab, node, 152, 1, &mut writer).is_ok());
-    assert!(rt; write_because_json(&lab, node, 153, 1, &mut writer).is_ok());
+    assert!(rt; write_because_json(&lab, &None, node, 152, 1, &mut writer).is_ok());
+    assert!(rt; write_because_json(&lab, &None, node, 153, 1, &mut writer).is_ok());
     assert_text(
         &rt,
         &writer,
-        "{\"command\":\"because\",\"node\":\"007\",\"step\":152,\"rows\":[{\"step\":148,\"what\":\"run\",\"opcode\":\"if\",\"part\":\"t\",\"index\":null,\"value\":16,\"source_node\":\"007\",\"source_step\":144,\"source_part\":\"t\",\"source_index\":null}]}\n{\"command\":\"because\",\"refused\":6,\"why\":\"nostep\",\"hint\":\"007 has 152 steps\"}\n",
+        "{\"command\":\"because\",\"node\":\"007\",\"step\":152,\"rows\":[{\"step\":148,\"what\":\"run\",\"opcode\":\"if\",\"part\":\"t\",\"index\":null,\"value\":16,\"line\":null,\"column\":null,\"source\":null,\"source_node\":\"007\",\"source_step\":144,\"source_what\":\"run\",\"source_opcode\":\"or\",\"source_part\":\"t\",\"source_index\":null,\"source_value\":16,\"source_a\":null,\"source_never_set\":false,\"source_line\":null,\"source_column\":null,\"source_source\":null}]}\n{\"command\":\"because\",\"refused\":6,\"why\":\"nostep\",\"hint\":\"007 has 152 steps\"}\n",
     );
     Ok(())
 }
@@ -207,16 +207,26 @@ fn sources_of_a_value(rt: HostRuntime) -> Result<(), Fail> {
     let mut stream = Vec::new(alloc);
     let mut writer = Writer::new(&mut stream);
     let (node, other) = (NodeId::new(0), NodeId::new(1));
-    assert!(rt; write_whence_json(alloc, &lab, other, 10, None, 1, &mut writer).is_ok());
+    assert!(rt; write_whence_json(alloc, &lab, &None, other, 10, None, 1, &mut writer).is_ok());
     assert!(rt;
-        write_whence_json(alloc, &lab, other, 10, Some(NodePart::A), 3, &mut writer).is_ok()
+        write_whence_json(
+            alloc,
+            &lab,
+            &None,
+            other,
+            10,
+            Some(NodePart::A),
+            3,
+            &mut writer
+        )
+        .is_ok()
     );
-    assert!(rt; write_whence_json(alloc, &lab, node, 10, None, 1, &mut writer).is_ok());
-    assert!(rt; write_whence_json(alloc, &lab, other, 11, None, 1, &mut writer).is_ok());
+    assert!(rt; write_whence_json(alloc, &lab, &None, node, 10, None, 1, &mut writer).is_ok());
+    assert!(rt; write_whence_json(alloc, &lab, &None, other, 11, None, 1, &mut writer).is_ok());
     assert_text(
         &rt,
         &writer,
-        "{\"command\":\"whence\",\"node\":\"001\",\"step\":10,\"first\":1,\"more_from\":null,\"part\":\"a\",\"index\":null,\"value\":336,\"rows\":[{\"number\":1,\"user\":0,\"node\":\"001\",\"step\":5,\"what\":\"pass\",\"from\":\"000\",\"from_step\":9,\"to\":\"001\",\"to_step\":5,\"word\":336,\"part\":\"t\",\"index\":null,\"value\":336,\"count\":1},{\"number\":2,\"user\":1,\"node\":\"000\",\"step\":7,\"what\":\"run\",\"opcode\":\"2*\",\"part\":\"t\",\"index\":null,\"value\":336,\"count\":1},{\"number\":3,\"user\":2,\"node\":\"000\",\"step\":4,\"what\":\"run\",\"opcode\":\"@p\",\"part\":\"t\",\"index\":null,\"value\":168,\"count\":1},{\"number\":4,\"user\":3,\"node\":\"000\",\"step\":null,\"what\":\"load\",\"part\":\"ram\",\"index\":2,\"value\":168,\"count\":1}]}\n{\"command\":\"whence\",\"node\":\"001\",\"step\":10,\"first\":3,\"more_from\":null,\"part\":\"a\",\"index\":null,\"value\":336,\"rows\":[{\"number\":3,\"user\":2,\"node\":\"000\",\"step\":4,\"what\":\"run\",\"opcode\":\"@p\",\"part\":\"t\",\"index\":null,\"value\":168,\"count\":1},{\"number\":4,\"user\":3,\"node\":\"000\",\"step\":null,\"what\":\"load\",\"part\":\"ram\",\"index\":2,\"value\":168,\"count\":1}]}\n{\"command\":\"whence\",\"node\":\"000\",\"step\":10,\"first\":1,\"more_from\":null,\"part\":null,\"index\":null,\"value\":null,\"rows\":[]}\n{\"command\":\"whence\",\"refused\":6,\"why\":\"nostep\",\"hint\":\"001 has 10 steps\"}\n",
+        "{\"command\":\"whence\",\"node\":\"001\",\"step\":10,\"what\":\"stop\",\"stop\":2,\"first\":1,\"more_from\":null,\"part\":\"a\",\"index\":null,\"value\":336,\"line\":null,\"column\":null,\"source\":null,\"rows\":[{\"number\":1,\"user\":0,\"node\":\"001\",\"step\":5,\"what\":\"pass\",\"from\":\"000\",\"from_step\":9,\"to\":\"001\",\"to_step\":5,\"word\":336,\"part\":\"t\",\"index\":null,\"value\":336,\"a\":null,\"count\":1,\"never_set\":false,\"line\":null,\"column\":null,\"source\":null},{\"number\":2,\"user\":1,\"node\":\"000\",\"step\":7,\"what\":\"run\",\"opcode\":\"2*\",\"part\":\"t\",\"index\":null,\"value\":336,\"a\":null,\"count\":1,\"never_set\":false,\"line\":null,\"column\":null,\"source\":null},{\"number\":3,\"user\":2,\"node\":\"000\",\"step\":4,\"what\":\"run\",\"opcode\":\"@p\",\"part\":\"t\",\"index\":null,\"value\":168,\"a\":null,\"count\":1,\"never_set\":false,\"line\":null,\"column\":null,\"source\":null},{\"number\":4,\"user\":3,\"node\":\"000\",\"step\":null,\"what\":\"load\",\"part\":\"ram\",\"index\":2,\"value\":168,\"a\":null,\"count\":1,\"never_set\":false,\"line\":null,\"column\":null,\"source\":null}]}\n{\"command\":\"whence\",\"node\":\"001\",\"step\":10,\"what\":\"stop\",\"stop\":2,\"first\":3,\"more_from\":null,\"part\":\"a\",\"index\":null,\"value\":336,\"line\":null,\"column\":null,\"source\":null,\"rows\":[{\"number\":3,\"user\":2,\"node\":\"000\",\"step\":4,\"what\":\"run\",\"opcode\":\"@p\",\"part\":\"t\",\"index\":null,\"value\":168,\"a\":null,\"count\":1,\"never_set\":false,\"line\":null,\"column\":null,\"source\":null},{\"number\":4,\"user\":3,\"node\":\"000\",\"step\":null,\"what\":\"load\",\"part\":\"ram\",\"index\":2,\"value\":168,\"a\":null,\"count\":1,\"never_set\":false,\"line\":null,\"column\":null,\"source\":null}]}\n{\"command\":\"whence\",\"node\":\"000\",\"step\":10,\"what\":\"run\",\"opcode\":\".\",\"first\":1,\"more_from\":null,\"part\":null,\"index\":null,\"value\":null,\"line\":null,\"column\":null,\"source\":null,\"rows\":[]}\n{\"command\":\"whence\",\"refused\":6,\"why\":\"nostep\",\"hint\":\"001 has 10 steps\"}\n",
     );
     Ok(())
 }

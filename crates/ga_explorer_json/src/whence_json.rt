@@ -8,31 +8,38 @@ ghost use Rattle.ga_lab.specs.Machine.{node_at_step};
 ghost use Rattle.ga_text.specs.Output.{WritesSomeText, WritesExactly};
 ghost use Rattle.ga_json.specs.Compact.{json_line};
 ghost use Rattle.ga_json.specs.Fields.{named_field_value, row_json};
-ghost use Rattle.ga_explorer_text.specs.Whence.{word_of_value, last_written_line};
+ghost use Rattle.ga_explorer_text.specs.Whence.{word_of_value, register_a_after_value, last_written_line};
 ghost use Rattle.ga_explorer_json.specs.Rows.{IsJsonLine};
 ghost use Rattle.ga_explorer_json.specs.Parts.{value_fields};
-ghost use Rattle.ga_explorer_json.specs.Whence.{no_value_fields, value_origin_fields, provenance_line_json, provenance_line_rows, whence_fields, next_provenance_line, provenance_lines_json, no_provenance_lines_json, IsValueJson, IsWhenceJson};
+ghost use Rattle.ga_explorer_json.specs.Whence.{no_value_fields, step_action_fields, value_origin_fields, multiplied_a, own_event_a, value_a, line_value_fields, provenance_line_json, provenance_line_rows, whence_fields, next_provenance_line, provenance_lines_json, no_provenance_lines_json, IsValueJson, IsWhenceJson};
 
 use crate::event::{MAX_ACTION_FIELDS, push_action};
 use crate::part::{number_unless_zero, optional_number, value_fields};
 use crate::refusal::{write_lab_refusal, write_step_refusal};
 use crate::row::{NoRows, push_fields};
+use crate::source::{is_never_set, source_fields, step_source, value_source};
+use ga_debug_info::DebugInfo;
 use ga_event::NodePart;
 use ga_explorer_text::{
     last_written_line, provenance_lines_after, selected_value, word_after_walking_back,
 };
 use ga_grid::NodeId;
 use ga_json::{Field, MAX_FIELDS, RowCursor, RowFields, row_fields, write_report};
-use ga_lab::{Lab, LabFault, NodeWalk};
+use ga_lab::{Lab, LabFault, Made, NodeWalk};
+use ga_node::OwnEventKind;
 use ga_provenance::{ProvenanceLine, Value, find_provenance_lines_at};
 use ga_text::{WriteResult, Writer};
 use ga_word::Word18;
 use std::alloc::Global;
 use std::io::Write;
 
-/// What is asked: a step of a node, and the first line that is written.
+/// The code of `+*`.
+const MULTIPLY_STEP: u8 = 16;
+
+/// What is asked: a step of a node, and the first line that is written; and what the source says of the chip.
 #[derive(Clone, Copy)]
-struct LinesQuery {
+struct LinesQuery<'n> {
+    notes: &'n Option<DebugInfo>,
     node: NodeId,
     step: u32,
     first: u32,
@@ -46,6 +53,7 @@ struct LinesQuery {
 pub fn write_whence_json<W: Write>(
     alloc: Global,
     lab: &Lab,
+    notes: &Option<DebugInfo>,
     node: NodeId,
     step: u32,
     part: Option<NodePart>,
@@ -53,17 +61,22 @@ pub fn write_whence_json<W: Write>(
     writer: &mut Writer<'_, W>,
 ) -> WriteResult
     requires { IfSome part IsNodePart }
-    ensures { WritesSomeText result (IsJsonLine (IsWhenceJson lab.now node step part first)) W.contents writer.old writer.new }
+    ensures { WritesSomeText result (IsJsonLine (IsWhenceJson notes.now lab.now node step part first)) W.contents writer.old writer.new }
 {
     if !lab.has_step((node, step)) {
         let count = lab.steps(node);
         return write_step_refusal(b"whence", LabFault::NoStep, node, count, writer);
     }
     let near = lab.walk(node, step);
-    let query = LinesQuery { node, step, first };
+    let query = LinesQuery {
+        notes,
+        node,
+        step,
+        first,
+    };
     match selected_value(lab, &near, node, part) {
         Some(value) => write_lines(alloc, lab, near, query, value, writer),
-        None => write_no_lines(query, writer),
+        None => write_no_lines(lab, &near, query, writer),
     }
 }
 
@@ -72,13 +85,13 @@ fn write_lines<'l, W: Write>(
     alloc: Global,
     lab: &'l Lab,
     near: NodeWalk<'l>,
-    query: LinesQuery,
+    query: LinesQuery<'_>,
     value: Value,
     writer: &mut Writer<'_, W>,
 ) -> WriteResult
     requires part { IsNodePart value.part }
     requires near { near ≡ node_at_step lab.now query.node near.step }
-    ensures { WritesSomeText result (IsJsonLine (IsValueJson lab.now query.node query.step query.first (Some value))) W.contents writer.old writer.new }
+    ensures { WritesSomeText result (IsJsonLine (IsValueJson query.entry.notes.now lab.now query.entry.node query.entry.step query.entry.first (Some value))) W.contents writer.old writer.new }
 {
     let most = last_written_line(query.first);
     match find_provenance_lines_at(alloc, lab, &near, query.node, value, most) {
@@ -94,7 +107,7 @@ fn write_lines<'l, W: Write>(
 fn write_listed_lines<'l, W: Write>(
     lab: &'l Lab,
     near: NodeWalk<'l>,
-    query: LinesQuery,
+    query: LinesQuery<'_>,
     value: Value,
     lines: &[ProvenanceLine],
     is_whole: bool,
@@ -102,14 +115,15 @@ fn write_listed_lines<'l, W: Write>(
 ) -> WriteResult
     requires near { near ≡ node_at_step lab.now query.node near.step }
     requires most { length lines.now ≤ last_written_line query.first }
-    ensures { WritesExactly result (json_line (provenance_lines_json lab.now query.node query.step query.first value lines.now is_whole)) W.contents writer.old writer.new }
+    ensures { WritesExactly result (json_line (provenance_lines_json query.entry.notes.now lab.now query.entry.node query.entry.step query.entry.first value lines.now is_whole)) W.contents writer.old writer.new }
 {
     let word = word_of_value(lab, &near, query.node, value);
     let more = next_provenance_line(lines.len() as u64, is_whole);
-    let head = query_row(&query, &value_fields(value.part, word), more);
+    let head = query_row(lab, &near, query, &value_fields(value.part, word), more);
     let skipped = query.first.saturating_sub(1);
     let mut rows = LineRows {
         lab,
+        notes: query.notes,
         near,
         at: query.node,
         number: skipped,
@@ -119,10 +133,16 @@ fn write_listed_lines<'l, W: Write>(
 }
 
 /// Writes the answer for a step that selects no value.
-fn write_no_lines<W: Write>(query: LinesQuery, writer: &mut Writer<'_, W>) -> WriteResult
-    ensures { WritesExactly result (json_line (no_provenance_lines_json query.node query.step query.first)) W.contents writer.old writer.new }
+fn write_no_lines<'l, W: Write>(
+    lab: &'l Lab,
+    near: &NodeWalk<'l>,
+    query: LinesQuery<'_>,
+    writer: &mut Writer<'_, W>,
+) -> WriteResult
+    requires { near.now ≡ node_at_step lab.now query.node near.now.step }
+    ensures { WritesExactly result (json_line (no_provenance_lines_json query.entry.notes.now lab.now query.entry.node query.entry.step query.entry.first)) W.contents writer.old writer.new }
 {
-    let head = query_row(&query, &no_value_fields(), None);
+    let head = query_row(lab, near, query, &no_value_fields(), None);
     write_report(head.as_slice(), &mut NoRows, writer)
 }
 
@@ -130,6 +150,7 @@ fn write_no_lines<W: Write>(query: LinesQuery, writer: &mut Writer<'_, W>) -> Wr
 #[derive(Drop)]
 struct LineRows<'l, 'r> {
     lab: &'l Lab,
+    notes: &'r Option<DebugInfo>,
     near: NodeWalk<'l>,
     at: NodeId,
     number: u32,
@@ -139,7 +160,7 @@ struct LineRows<'l, 'r> {
 }
 
 impl<'l, 'r> RowCursor<'r> for LineRows<'l, 'r> {
-    ghost left = { λ rows. provenance_line_rows rows.lab.now rows.number rows.rest.now };
+    ghost left = { λ rows. provenance_line_rows rows.notes.now rows.lab.now rows.number rows.rest.now };
 
     fn next(&mut self) -> Option<RowFields<'r>> {
         match self.rest.split_first() {
@@ -149,11 +170,13 @@ impl<'l, 'r> RowCursor<'r> for LineRows<'l, 'r> {
                 let place = step.min(self.lab.steps(node));
                 let walk = walk_to(self.lab, &self.near, self.at, node, place);
                 let word = word_after_walking_back(self.lab, node, place, &walk, part);
+                let a = word_after_walking_back(self.lab, node, place, &walk, NodePart::A);
+                let row = line_row(self.lab, self.notes, &walk, self.number + 1, line, word, a);
                 self.near = walk;
                 self.at = node;
                 self.number += 1;
                 self.rest = rest;
-                Some(line_row(self.lab, self.number, line, word))
+                Some(row)
             }
             None => None,
         }
@@ -162,7 +185,7 @@ impl<'l, 'r> RowCursor<'r> for LineRows<'l, 'r> {
 
 /// A node that is walked back to a step: from where a walk is, if that is of the same node and not earlier, else from its newest
 /// step.
-fn walk_to<'l>(
+pub(crate) fn walk_to<'l>(
     lab: &'l Lab,
     near: &NodeWalk<'l>,
     at: NodeId,
@@ -183,7 +206,12 @@ fn walk_to<'l>(
 }
 
 /// The word of a value, read from where a walk is, if that is of the same node and not earlier.
-fn word_of_value<'l>(lab: &'l Lab, near: &NodeWalk<'l>, at: NodeId, value: Value) -> Word18
+pub(crate) fn word_of_value<'l>(
+    lab: &'l Lab,
+    near: &NodeWalk<'l>,
+    at: NodeId,
+    value: Value,
+) -> Word18
     requires { near.now ≡ node_at_step lab.now at near.now.step }
     ensures { result ≡ word_of_value lab.now value }
 {
@@ -201,22 +229,39 @@ fn next_provenance_line(lines: u64, is_whole: bool) -> Option<u64>
     if is_whole { None } else { Some(lines + 1) }
 }
 
-/// The query with the queried value, and from which line to go on.
-fn query_row(
-    query: &LinesQuery,
-    queried: &[Field<'static>; 3],
+/// The query with what its step did, the queried value, from which line to go on, and what the source has for the step.
+fn query_row<'l, 'n>(
+    lab: &'l Lab,
+    near: &NodeWalk<'l>,
+    query: LinesQuery<'n>,
+    queried: &[Field<'n>; 3],
     more: Option<u64>,
-) -> RowFields<'static>
-    ensures { map named_field_value result.items ≡ whence_fields query.now.node query.now.step query.now.first (map named_field_value queried.now) more }
+) -> RowFields<'n>
+    requires { near.now ≡ node_at_step lab.now query.node near.now.step }
+    ensures { map named_field_value result.items ≡ whence_fields query.entry.notes.now lab.now query.entry.node query.entry.step query.entry.first (map named_field_value queried.now) more }
 {
+    let LinesQuery {
+        notes,
+        node,
+        step,
+        first,
+    } = query;
     let mut row = row_fields(&[
         Field::text(b"command", b"whence"),
-        Field::node(b"node", query.node),
-        Field::number(b"step", u64::from(query.step)),
-        Field::number(b"first", u64::from(query.first)),
-        optional_number(b"more_from", more),
+        Field::node(b"node", node),
+        Field::number(b"step", u64::from(step)),
     ]);
+    push_step_action(&mut row, lab, node, step);
+    push_fields(
+        &mut row,
+        &[
+            Field::number(b"first", u64::from(first)),
+            optional_number(b"more_from", more),
+        ],
+    );
     push_fields(&mut row, queried);
+    let source = step_source(lab, notes, near, node, node, step);
+    push_fields(&mut row, &source_fields(source));
     row
 }
 
@@ -231,9 +276,18 @@ fn no_value_fields() -> [Field<'static>; 3]
     ]
 }
 
-/// A line with the word of its value, and how many values its run has.
-fn line_row<'r>(lab: &Lab, number: u32, line: ProvenanceLine, word: Word18) -> RowFields<'r>
-    ensures { row_json result.items ≡ provenance_line_json lab.now number line word }
+/// A line with the words of its value, how many values its run has, whether nobody set it, and what the source has for it.
+fn line_row<'l, 'r>(
+    lab: &'l Lab,
+    notes: &'r Option<DebugInfo>,
+    walk: &NodeWalk<'l>,
+    number: u32,
+    line: ProvenanceLine,
+    word: Word18,
+    a: Word18,
+) -> RowFields<'r>
+    requires { walk.now ≡ node_at_step lab.now line.value.node walk.now.step }
+    ensures { row_json result.items ≡ provenance_line_json notes.now lab.now number line word a }
 {
     let value = line.value;
     let mut row = row_fields(&[
@@ -244,8 +298,59 @@ fn line_row<'r>(lab: &Lab, number: u32, line: ProvenanceLine, word: Word18) -> R
     ]);
     push_made(&mut row, lab, value);
     push_fields(&mut row, &value_fields(value.part, word));
-    push_fields(&mut row, &[Field::number(b"count", u64::from(line.count))]);
+    push_fields(
+        &mut row,
+        &[
+            optional_number(b"a", value_a(lab, value, a)),
+            Field::number(b"count", u64::from(line.count)),
+            Field::flag(b"never_set", is_never_set(notes, value)),
+        ],
+    );
+    let source = value_source(lab, notes, walk, value.node, value);
+    push_fields(&mut row, &source_fields(source));
     row
+}
+
+/// A after the step of a value, if that is T of a `+*`, which makes both.
+pub(crate) fn value_a(lab: &Lab, value: Value, a: Word18) -> Option<u64>
+    ensures { result ≡ value_a lab.now value a }
+{
+    if value.step == 0 {
+        return None;
+    }
+    match lab.made_event_of_step(value.node, value.step - 1) {
+        Some(Made::Own { kind, .. }) => own_event_a(kind, value.part, a),
+        Some(Made::Pass { .. }) => None,
+        None => None,
+    }
+}
+
+/// A after an event of a node's own, if it is a `+*` and the part is T.
+fn own_event_a(kind: OwnEventKind, part: NodePart, a: Word18) -> Option<u64>
+    ensures { result ≡ own_event_a kind part a }
+{
+    match kind {
+        OwnEventKind::Run(code) => multiplied_a(code, part, a),
+        OwnEventKind::Fetch => None,
+        OwnEventKind::Wait => None,
+        OwnEventKind::Stop(_) => None,
+    }
+}
+
+/// A after an opcode, if it is `+*` and the part is T.
+fn multiplied_a(code: u8, part: NodePart, a: Word18) -> Option<u64>
+    ensures { result ≡ multiplied_a code part a }
+{
+    match part {
+        NodePart::Data(k) => {
+            if code == MULTIPLY_STEP && k == 0 {
+                Some(u64::from(a.get()))
+            } else {
+                None
+            }
+        }
+        _ => None,
+    }
 }
 
 /// Adds what the step of a value did, or that the value was loaded.
@@ -256,7 +361,18 @@ fn push_made<'r>(row: &mut RowFields<'r>, lab: &Lab, value: Value)
 {
     if value.step == 0 {
         push_fields(row, &[Field::text(b"what", b"load")]);
-    } else if let Some(made) = lab.made_event_of_step(value.node, value.step - 1) {
+    } else {
+        push_step_action(row, lab, value.node, value.step);
+    }
+}
+
+/// Adds what a step did.
+fn push_step_action<'r>(row: &mut RowFields<'r>, lab: &Lab, node: NodeId, step: u32)
+    requires { array_vec_len row.old + MAX_ACTION_FIELDS ≤ MAX_FIELDS }
+    ensures fields { map named_field_value row.new.items ≡ map named_field_value row.old.items ++ step_action_fields lab.now node step }
+    ensures len { array_vec_len row.new ≤ array_vec_len row.old + MAX_ACTION_FIELDS }
+{
+    if let Some(made) = lab.made_event_of_step(node, step.saturating_sub(1)) {
         push_action(row, made);
     }
 }

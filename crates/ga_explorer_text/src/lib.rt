@@ -34,6 +34,9 @@ pub use races_text::write_races;
 pub use ring_text::awaited_neighbour;
 pub use run_text::run_result_text;
 pub use saved_text::write_save;
+pub use source_suffix::{
+    cell_note_text, cell_of_node_part, given_place_of_part, slot_note_text, walked_slot,
+};
 pub use value_words::word_after_walking_back;
 pub use whence_text::{provenance_lines_after, selected_value, write_whence};
 pub use who_text::{count_idle_marked_nodes, idle_count, write_who};

@@ -20,8 +20,8 @@ use std::io::Write;
 /// The slot of a fetch.
 const FETCH: usize = 4;
 
-/// What the source says of a cell.
-fn noted(notes: &Option<DebugInfo>, node: NodeId, cell: Option<u8>) -> &[u8]
+/// What the source says of a cell of a node; empty for an image.
+pub fn cell_note_text(notes: &Option<DebugInfo>, node: NodeId, cell: Option<u8>) -> &[u8]
     ensures { result.now ≡ cell_note_text notes.now node cell }
 {
     match notes {
@@ -30,8 +30,13 @@ fn noted(notes: &Option<DebugInfo>, node: NodeId, cell: Option<u8>) -> &[u8]
     }
 }
 
-/// What it says of a slot of the cell.
-fn slot_note_text(notes: &Option<DebugInfo>, node: NodeId, cell: Option<u8>, slot: usize) -> &[u8]
+/// What it says of a slot of the cell, if the line of the cell is long.
+pub fn slot_note_text(
+    notes: &Option<DebugInfo>,
+    node: NodeId,
+    cell: Option<u8>,
+    slot: usize,
+) -> &[u8]
     ensures { result.now ≡ noted_slot_of notes.now node cell slot }
 {
     match notes {
@@ -47,7 +52,7 @@ fn slot_note_text(notes: &Option<DebugInfo>, node: NodeId, cell: Option<u8>, slo
 }
 
 /// The cell that a part of a node is.
-fn cell_of_node_part(part: NodePart) -> Option<u8>
+pub fn cell_of_node_part(part: NodePart) -> Option<u8>
     ensures { result ≡ cell_of_node_part part }
 {
     match part {
@@ -58,7 +63,7 @@ fn cell_of_node_part(part: NodePart) -> Option<u8>
 }
 
 /// The place by which a part is given: that of T represents all parts that only an image of format 2 gives.
-fn given_place_of_part(part: NodePart) -> Place
+pub fn given_place_of_part(part: NodePart) -> Place
     ensures { result ≡ given_place_of_part part }
 {
     match part {
@@ -105,7 +110,7 @@ fn say_tail<W: Write>(
 ) -> WriteResult
     ensures { WritesExactly result (source_suffix_line notes.now node cell slot) W.contents writer.old writer.new }
 {
-    writer.write_blocks(noted(notes, node, cell))?;
+    writer.write_blocks(cell_note_text(notes, node, cell))?;
     writer.write_blocks(slot_note_text(notes, node, cell, slot))?;
     writer.write_text(b"\n")
 }
@@ -124,7 +129,7 @@ fn say_loaded<W: Write>(
 }
 
 /// The slot of a node that is walked back to its first `place` steps.
-fn walked_slot(lab: &Lab, node: NodeId, place: u32, walk: &NodeWalk<'_>) -> u32
+pub fn walked_slot(lab: &Lab, node: NodeId, place: u32, walk: &NodeWalk<'_>) -> u32
     requires within { place ≤ count_steps node.number lab.now.kept }
     requires walk { walk.now ≡ node_at_step lab.now node place }
     ensures { result ≡ (node_after_steps lab.now node.number place).slot }

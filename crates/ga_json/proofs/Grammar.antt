@@ -1,5 +1,5 @@
 -- What the grammar takes and refuses (RFC 8259).
-use Rattle.std.proofs.Common.{◌≡◌, ℕ, ◌+◌, ◌*◌, ◌^◌, ◌<◌, ◌≤◌, pos, List, [], ◌∷◌, ◌++◌, Bool, true, false, cond, codes, length, Option, Some, None, ap, sym, ◌∙◌, refl, subst, decimal, inl, arith}
+use Rattle.std.proofs.Common.{◌≡◌, ℕ, ◌^◌, ◌<◌, ◌≤◌, pos, List, [], ◌∷◌, ◌++◌, Bool, true, false, cond, codes, length, Option, Some, None, ap, sym, ◌∙◌, refl, subst, decimal, inl, arith}
 use Rattle.std.specs.Prelude.{◌==◌, ◌&&◌, nat_le, flat_map}
 use Rattle.std.specs.List.{All, AllByRecursion}
 use Rattle.std.specs.Str.Parse.{AllDigits, digits_value}
@@ -13,7 +13,7 @@ use Rattle.hex.specs.Hex.{hex_digit_value}
 use Rattle.ga_ports.specs.Steps.{◌>>=◌}
 use Rattle.ga_text.specs.Lines.{Text}
 use Rattle.ga_json.specs.Values.{JsonValue, array, item, no_items, number, string, boolean}
-use Rattle.ga_json.specs.Grammar.{JsonChar, unescaped, letter, unicode_escape, surrogate_pair, char_text, char_bytes, chars_bytes, code_point_bytes, surrogate_pair_bytes, escape_letter_code, hex_escape_code, is_unescaped_byte, IsStructuralCharacter, IsJsonString, IsJsonInt, IsJsonValue, IsMoreArrayItems, IsJsonText}
+use Rattle.ga_json.specs.Grammar.{JsonChar, unescaped, letter, unicode_escape, surrogate_pair, char_text, char_bytes, chars_bytes, escape_letter_code, hex_escape_code, is_unescaped_byte, IsStructuralCharacter, IsJsonString, IsJsonInt, IsJsonValue, IsMoreArrayItems, IsJsonText}
 use Rattle.ga_json.proofs.Characters.{string_is}
 use Rattle.ga_json.proofs.Written.{all_append, is_plain, plain_text, mark_is}
 

@@ -1,4 +1,5 @@
 pub mod Characters
+pub mod Digits
 pub mod Grammar
 pub mod Says
 pub mod Texts

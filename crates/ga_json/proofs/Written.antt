@@ -1,5 +1,5 @@
 -- The text that is written of a value is JSON (RFC 8259), and one line.
-use Rattle.std.proofs.Common.{◌≡◌, ℕ, zero, suc, ◌+◌, ◌/◌, ◌%◌, ◌^◌, ◌<◌, ◌≤◌, pos, negsuc, List, [], ◌∷◌, ◌++◌, Bool, true, false, codes, get_or, ap, sym, ◌∙◌, refl, subst, decimal, ⊎_elim, inl, inr, arith}
+use Rattle.std.proofs.Common.{◌≡◌, ℕ, suc, ◌+◌, ◌/◌, ◌%◌, ◌^◌, ◌<◌, ◌≤◌, pos, negsuc, List, [], ◌∷◌, ◌++◌, Bool, true, false, codes, ap, sym, ◌∙◌, refl, subst, ⊎_elim, inl, inr, arith}
 use Rattle.std.specs.Prelude.{map, ◌==◌, ◌&&◌, nat_le, nat_lt, slice_index}
 use Rattle.std.specs.List.{All, AllByRecursion}
 use Rattle.std.specs.Str.{IsUtf8}
@@ -9,28 +9,22 @@ use Rattle.std.proofs.lemmas.List.Elements.{All-from_recursion}
 use Rattle.std.proofs.lemmas.Grind.{flat_map-append}
 use Rattle.std.proofs.lemmas.Bool.{cond_both, and_parts, and_from, leb-true, ltb-true, agree_below_at, cases_lt}
 use Rattle.std.proofs.lemmas.Str.{IsUtf8-append, IsUtf8-nil, encode_ascii}
-use Rattle.std.proofs.lemmas.Fmt.{decimal_by_steps, decimal_digit, decimal_is_IsNumeral, first_decimal}
 use Rattle.hex.specs.Hex.{lower_digits}
 use Rattle.ga_word.specs.Word.{hex_digit}
 use Rattle.ga_text.specs.Lines.{Text}
 use Rattle.ga_text.specs.Digits.{hex2_of}
 use Rattle.ga_json.specs.Values.{JsonValue, null, boolean, number, string, array, object, JsonItems, no_items, item, JsonMembers, no_members, member}
-use Rattle.ga_json.specs.Grammar.{IsStructuralCharacter, IsJsonInt, IsJsonValue, IsArrayItems, IsMoreArrayItems, IsObjectMembers, IsMoreObjectMembers, IsJsonText}
-use Rattle.ga_json.specs.Compact.{control_text, escape_text, escaped_text, quoted_text, optional_comma, compact_json_text, array_items_text, object_members_text, json_line, IsWritableValue, AreWritableItems, AreWritableMembers}
+use Rattle.ga_json.specs.Grammar.{IsStructuralCharacter, IsJsonValue, IsArrayItems, IsMoreArrayItems, IsObjectMembers, IsMoreObjectMembers, IsJsonText}
+use Rattle.ga_json.specs.Compact.{control_text, escape_text, escaped_text, quoted_text, optional_comma, natural_text, compact_json_text, array_items_text, object_members_text, json_line, IsWritableValue, AreWritableItems, AreWritableMembers}
 use Rattle.ga_json.specs.Names.{is_field_name_byte, are_field_name_bytes}
 use Rattle.ga_json.specs.FieldValues.{field_value_json}
 use Rattle.ga_json.specs.Fields.{named_field_value, with_members}
 use Rattle.ga_json.specs.declared.field.Field.{Field}
+use Rattle.ga_json.proofs.Digits.{by_digits, int_is}
 use Rattle.ga_json.proofs.Texts.{escape_plain, name_byte}
 use Rattle.ga_json.proofs.Characters.{string_is}
 
 -- ---- the text is one of the value
-
-int_is : (n : ℕ) → n < 2 ^ 64 → IsJsonInt (decimal n) n
-int_is n fits = ((decimal_is_IsNumeral n fits).0, (decimal_is_IsNumeral n fits).1, first n fits) where
-  first : (m : ℕ) → m < 2 ^ 64 → get_or (decimal m) 0 0 ≡ 48 → decimal m ≡ 48 ∷ []
-  first zero small e = decimal_digit 0 (omega arith)
-  first (suc m) small e = let above = first_decimal (suc m) (omega arith) small in absurd (omega (arith, above, e))
 
 pub mark_is : (mark : ℕ) → IsStructuralCharacter mark (mark ∷ [])
 mark_is mark = ([], [], tt, tt, refl)
@@ -39,8 +33,8 @@ mutual
   value_is : (value : JsonValue) → IsWritableValue value → IsJsonValue (compact_json_text value) value
   value_is null h = refl
   value_is (boolean b) h = refl
-  value_is (number (pos n)) h = inl (n, int_is n h, refl)
-  value_is (number (negsuc n)) h = inr (decimal (suc n), suc n, refl, int_is (suc n) h, refl)
+  value_is (number (pos n)) h = inl (n, int_is n, refl)
+  value_is (number (negsuc n)) h = inr (natural_text (suc n), suc n, refl, int_is (suc n), refl)
   value_is (string bytes) h = string_is bytes
   value_is (array items) h = (91 ∷ [], array_items_text false items, 93 ∷ [], mark_is 91, items_are items h, mark_is 93, refl)
   value_is (object members) h = (123 ∷ [], object_members_text false members, 125 ∷ [], mark_is 123, members_are members h, mark_is 125, refl)
@@ -96,10 +90,10 @@ plain_text (b ∷ bs) h =
 
 -- ---- numbers
 
-decimal_plain : (n : ℕ) → n < 2 ^ 64 → IsPlain (decimal n)
-decimal_plain n fits =
-    decimal_by_steps (λ m ds. IsPlain ds) (λ m small. plain_byte (48 + m) (omega arith) (omega arith))
-    (λ m ds some h. plain_append ds ((48 + m % 10) ∷ []) h (plain_byte (48 + m % 10) (omega arith) (omega arith))) n fits
+natural_plain : (n : ℕ) → IsPlain (natural_text n)
+natural_plain n =
+    by_digits (λ m ds. IsPlain ds) (λ m small. plain_byte (48 + m) (omega arith) (omega (arith, small)))
+    (λ m ds large h. plain_append ds ((48 + m % 10) ∷ []) h (plain_byte (48 + m % 10) (omega arith) (omega arith))) (n + 1) n (omega arith)
 
 -- ---- strings
 
@@ -188,8 +182,8 @@ mutual
   value_plain null h = plain_text (codes "null") refl
   value_plain (boolean true) h = plain_text (codes "true") refl
   value_plain (boolean false) h = plain_text (codes "false") refl
-  value_plain (number (pos n)) h = decimal_plain n h
-  value_plain (number (negsuc n)) h = plain_append (45 ∷ []) (decimal (suc n)) (plain_text (45 ∷ []) refl) (decimal_plain (suc n) h)
+  value_plain (number (pos n)) h = natural_plain n
+  value_plain (number (negsuc n)) h = plain_append (45 ∷ []) (natural_text (suc n)) (plain_text (45 ∷ []) refl) (natural_plain (suc n))
   value_plain (string bytes) h = quoted_plain bytes h
   value_plain (array items) h = between_plain 91 93 (array_items_text false items) refl refl (items_plain false items h)
   value_plain (object members) h = between_plain 123 125 (object_members_text false members) refl refl (members_plain false members h)

@@ -1,6 +1,5 @@
 -- The text that is written of a JSON value: without white space, and with the shortest escapes (this project's own, by RFC 8259).
-use Rattle.std.specs.Prelude.{ℕ, ◌^◌, ◌<◌, nat_abs, Bool, true, false, if◌then◌else◌, ◌==◌, nat_le, [], ◌∷◌, ◌++◌, flat_map, codes}
-use Rattle.std.specs.Fmt.{signed_decimal}
+use Rattle.std.specs.Prelude.{ℕ, zero, suc, ℤ, pos, negsuc, ◌+◌, ◌/◌, ◌%◌, Bool, true, false, if◌then◌else◌, ◌==◌, nat_le, nat_lt, [], ◌∷◌, ◌++◌, flat_map, codes}
 use Rattle.std.specs.Str.{IsUtf8}
 use Rattle.ga_text.specs.Lines.{Text}
 use Rattle.ga_text.specs.Digits.{hex2_of}
@@ -34,11 +33,23 @@ quoted_text bytes = 34 ∷ (escaped_text bytes ++ 34 ∷ [])
 abbrev pub optional_comma : Bool → Text
 optional_comma later = if later then 44 ∷ [] else []
 
+-- the decimal digits of a number of any size, without a leading zero, found in at most so many divisions
+unfoldable pub digits_by_division : ℕ → ℕ → Text
+digits_by_division zero n = []
+digits_by_division (suc most) n = if nat_lt n 10 then (48 + n) ∷ [] else digits_by_division most (n / 10) ++ (48 + n % 10) ∷ []
+
+abbrev pub natural_text : ℕ → Text
+natural_text n = digits_by_division (n + 1) n
+
+abbrev pub integer_text : ℤ → Text
+integer_text (pos n) = natural_text n
+integer_text (negsuc n) = 45 ∷ natural_text (suc n)
+
 abbrev mutual
   pub compact_json_text : JsonValue → Text
   compact_json_text null = codes "null"
   compact_json_text (boolean b) = if b then codes "true" else codes "false"
-  compact_json_text (number z) = signed_decimal z
+  compact_json_text (number z) = integer_text z
   compact_json_text (string bytes) = quoted_text bytes
   compact_json_text (array items) = 91 ∷ (array_items_text false items ++ 93 ∷ [])
   compact_json_text (object members) = 123 ∷ (object_members_text false members ++ 125 ∷ [])
@@ -55,12 +66,12 @@ abbrev mutual
 abbrev pub json_line : JsonValue → Text
 json_line value = compact_json_text value ++ codes "\n"
 
--- the integers have 64 bits, and the texts are UTF-8
+-- the texts are UTF-8
 abbrev mutual
   pub IsWritableValue : JsonValue → Type 0
   IsWritableValue null = Unit {0}
   IsWritableValue (boolean b) = Unit {0}
-  IsWritableValue (number z) = nat_abs z < 2 ^ 64
+  IsWritableValue (number z) = Unit {0}
   IsWritableValue (string bytes) = IsUtf8 bytes
   IsWritableValue (array items) = AreWritableItems items
   IsWritableValue (object members) = AreWritableMembers members

@@ -8,7 +8,7 @@ use ga_grid::NodeId;
 use ga_word::Word18;
 
 /// The most fields of a row.
-pub const MAX_FIELDS: usize = 16;
+pub const MAX_FIELDS: usize = 32;
 
 /// The fields of a row of an answer.
 pub type RowFields<'a> = ArrayVec<Field<'a>, MAX_FIELDS>;
@@ -22,6 +22,8 @@ pub enum FieldValue<'a> {
     Node(NodeId),
     /// A text, as a string.
     Text(&'a [u8]),
+    /// A text in two parts, as one string.
+    Joined(&'a [u8], &'a [u8]),
     /// A truth value.
     Flag(bool),
     /// No value, as `null`.
@@ -39,7 +41,7 @@ pub struct Field<'a> {
 }
 
 impl<'a> Field<'a> {
-    ghost use Rattle.std.specs.Prelude.{◌≡◌, pos, IsTrue};
+    ghost use Rattle.std.specs.Prelude.{◌≡◌, ◌++◌, pos, IsTrue};
     ghost use Rattle.ga_text.specs.Digits.{name_of_node};
     ghost use Rattle.ga_json.specs.Values.{null, boolean, number, string};
     ghost use Rattle.ga_json.specs.FieldValues.{field_value_json};
@@ -94,6 +96,19 @@ impl<'a> Field<'a> {
         Field {
             name,
             value: FieldValue::Text(text),
+        }
+    }
+
+    /// A text in two parts with its name.
+    #[inline(always)]
+    pub fn joined(name: &'a [u8], front: &'a [u8], rest: &'a [u8]) -> Self
+        requires { IsTrue (is_field_name name.now) }
+        ensures name { result.name.now ≡ name.now }
+        ensures value { field_value_json result.value ≡ string (front.now ++ rest.now) }
+    {
+        Field {
+            name,
+            value: FieldValue::Joined(front, rest),
         }
     }
 

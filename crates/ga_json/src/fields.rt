@@ -4,12 +4,12 @@ ghost use Rattle.std.specs.Prelude.{◌≡◌, ◌≤◌, ◌+◌, ◌++◌, ◌
 ghost use Rattle.arrayvec.specs.ArrayVec.{array_vec_len};
 ghost use Rattle.ga_text.specs.Output.{WritesExactly};
 ghost use Rattle.ga_text.specs.Digits.{name_of_node};
-ghost use Rattle.ga_json.specs.Compact.{compact_json_text, optional_comma};
+ghost use Rattle.ga_json.specs.Compact.{natural_text, compact_json_text, optional_comma};
 ghost use Rattle.ga_json.specs.FieldValues.{field_value_json};
 ghost use Rattle.ga_json.specs.inner.{field_text, fields_text};
 
 use crate::field::{Field, FieldValue};
-use crate::strings::write_string;
+use crate::strings::{write_joined_string, write_string};
 use arrayvec::ArrayVec;
 use ga_grid::NodeId;
 use ga_text::{
@@ -69,15 +69,24 @@ fn push_name(out: &mut ArrayVec<u8, OUTPUT_CAPACITY>, node: NodeId)
     push_text(out, b"\"");
 }
 
+/// Adds a number in decimal.
+fn push_integer(out: &mut ArrayVec<u8, OUTPUT_CAPACITY>, number: u64)
+    requires { array_vec_len out.old + MAX_NUMBER_DIGITS ≤ OUTPUT_CAPACITY }
+    ensures { out.new.items ≡ out.old.items ++ natural_text number }
+{
+    push_number(out, number);
+}
+
 /// Writes a value, for which there is room unless it is a text.
 fn write_value<W: Write>(value: FieldValue<'_>, writer: &mut Writer<'_, W>) -> WriteResult
     requires { array_vec_len writer.old.pending + MAX_NUMBER_DIGITS ≤ OUTPUT_CAPACITY }
     ensures { WritesExactly result (compact_json_text (field_value_json value.entry)) W.contents writer.old writer.new }
 {
     match value {
-        FieldValue::Number(number) => push_number(&mut writer.pending, number),
+        FieldValue::Number(number) => push_integer(&mut writer.pending, number),
         FieldValue::Node(node) => push_name(&mut writer.pending, node),
         FieldValue::Text(text) => return write_string(text, writer),
+        FieldValue::Joined(front, rest) => return write_joined_string(front, rest, writer),
         FieldValue::Flag(flag) => push_text(
             &mut writer.pending,
             if flag { b"true" } else { b"false" },

@@ -9,7 +9,7 @@ ghost use Rattle.ga_json.specs.FieldValues.{field_value_json};
 ghost use Rattle.ga_json.specs.Fields.{row_json, report_json};
 ghost use Rattle.ga_json.specs.declared.field.Field.{Field};
 
-/// The line that is written of a value is a JSON text that denotes this value, if its integers have 64 bits and its texts are UTF-8.
+/// The line that is written of a value is a JSON text that denotes this value, if its texts are UTF-8.
 #[tactic(auto, using(crate::proofs::Written::line_is_json))]
 pub fn lines_are_json()
     ensures { (value : JsonValue) → IsWritableValue value → IsJsonText (json_line value) value }

@@ -15,5 +15,5 @@ pub use cursor::RowCursor;
 pub use diagnostics::write_diagnostics;
 pub use field::{Field, FieldValue, MAX_FIELDS, RowFields, row_fields};
 pub use format::ReportFormat;
-pub use optional_fields::{optional_number_field, text_field};
+pub use optional_fields::{joined_text_field, optional_number_field, text_field};
 pub use report::{write_object, write_report};

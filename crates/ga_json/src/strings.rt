@@ -24,6 +24,23 @@ pub fn write_string<W: Write>(text: &[u8], writer: &mut Writer<'_, W>) -> WriteR
     writer.write_text(b"\"")
 }
 
+/// Writes a text in two parts between quotation marks.
+///
+/// # Errors
+/// A write failed.
+pub fn write_joined_string<W: Write>(
+    front: &[u8],
+    rest: &[u8],
+    writer: &mut Writer<'_, W>,
+) -> WriteResult
+    ensures { WritesExactly result (quoted_text (front.now ++ rest.now)) W.contents writer.old writer.new }
+{
+    writer.write_text(b"\"")?;
+    write_escaped(front, writer)?;
+    write_escaped(rest, writer)?;
+    writer.write_text(b"\"")
+}
+
 /// Writes a text with escapes.
 fn write_escaped<W: Write>(text: &[u8], writer: &mut Writer<'_, W>) -> WriteResult
     ensures { WritesExactly result (escaped_text text.now) W.contents writer.old writer.new }

@@ -24,13 +24,14 @@ pub extern "C" fn ga_check(
     asked: u32,
 ) -> usize
     ensures { (read rest text : Bytes) × (found : Found) × (input.now ≡ read ++ rest)
-        × IsProgramOutcome (record { most = most; seconds = 0; format = AsText }) limit false asked read rest text found
+        × IsProgramOutcome (record { most = most; seconds = 0; same = false; format = AsText }) limit false asked read rest text found
         × (result ≡ length text) × (take result output.new ≡ take (length output.old) text) }
 {
     let (mut reader, mut answer, mut errors) = streams(alloc, input);
     let request = CheckRequest {
         most,
         seconds: 0,
+        same: false,
         format: ReportFormat::Text,
     };
     let watch = SearchControl::new();

@@ -75,16 +75,18 @@ after a line `FILE:`.
 An end is a state in which no node has an event, or states that lead to each other and to no other: some nodes go on for ever there, and the
 others make no further step. Prints the number of states and, for each kind of end, what the nodes do there, and which of them are not
 clean: stopped, waiting to write, or waiting to read from a node that isn't clean, that goes on, or that waits for them in turn.
-`at least`: a bound was met, so there may be others. The last line names the bound.
+`at least`: a bound was met, so there may be others. The line `stopped ..` names the bound.
 With --session K it writes instead the lines `step NNN` that lead to the Kth kind of end.
 With --never it looks for an event after which a condition of explore's `run until` holds, and prints `never`, or the first such event that
 it found, with the number of events up to it; with --session 1 instead the lines that lead there. `stuck NNN` is one more condition: NNN makes
 no further step, whatever comes. A state counts neither steps nor words, so `step NNN K`, `NNN step OP N` and `pass NNN MMM J` are none.
+With --same the last line is `one end: ..`, as of an expectation: it holds if there is one end in every order. It is broken by two ends.
 With --settled the idle nodes wait before the first step, so that a look sees them wait. A session has these steps first.
 
 Exit status: 0 each end is clean, or each expectation holds, or a session is written, 1 image or source refused, or no such kind or session,
-2 a stream failed, 3 command line refused, 5 an end isn't clean, or an expectation is broken, 6 a bound was met, and what was found is
-clean. With --never: 0 never, 5 reached, 6 a bound was met. Of several files: the first 1 or 2, else 5 before 6 before 0.";
+2 a stream failed, 3 command line refused, 5 an end isn't clean, or an expectation is broken, or there are two ends and --same, 6 a bound was
+met, and none of these was found. With --never: 0 never, 5 reached, 6 a bound was met. Of several files: the first 1 or 2, else 5 before 6
+before 0.";
 
 /// What `ga144 dap --help` says.
 const EDITOR: &str = "\
@@ -139,6 +141,8 @@ const SESSION: &str = "Write the session of the Kth kind of end, counted from 1"
 const NEVER: &str = "Find an event after which COND holds: COND or COND .., as of run until";
 
 const SHOWN_ENDS: &str = "Show the ends of source that has expectations, too";
+
+const SAME: &str = "Expect that all orders have the same end";
 
 const OBJECTS: &str = "Print JSON objects, one a line (docs/JSON.md)";
 
@@ -227,6 +231,7 @@ fn check_line<'a>(alloc: Global) -> Result<Command<'a>, AllocError> {
         .arg(number_option(alloc, "session", SESSION, u32::MAX).value_name("K"))?
         .arg(named_option(alloc, "never", NEVER).value_name("COND"))?
         .arg(flag(alloc, "ends", SHOWN_ENDS))?
+        .arg(flag(alloc, "same", SAME))?
         .arg(flag(alloc, "json", OBJECTS))?
         .arg(flag(alloc, "progress", PROGRESS))?
         .arg(files_argument(alloc, "An image or source"))

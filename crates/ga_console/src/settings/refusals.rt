@@ -26,6 +26,18 @@ pub(super) fn no_json_session(alloc: Global) -> CommandLineFault {
     }
 }
 
+/// Reports that one end is expected of all orders alone, in the form of clap's errors.
+pub(super) fn no_same(alloc: Global) -> CommandLineFault {
+    match String::from_str(
+        alloc,
+        "error: the argument '--same' cannot be used with '--session <K>' or '--never <COND>'\n\n\
+        For more information, try '--help'.\n",
+    ) {
+        Ok(text) => CommandLineFault::Refused(text),
+        Err(_) => CommandLineFault::Memory,
+    }
+}
+
 /// Reports that a session and conditions need a single file, in the form of clap's errors.
 pub(super) fn no_further_file(alloc: Global) -> CommandLineFault {
     match String::from_str(

@@ -1,11 +1,19 @@
-use Rattle.std.proofs.Common.{sym, ap}
-use Rattle.ga_json.proofs.Says.{says_as}
-use Rattle.ga_json.specs.declared.format.ReportFormat.{ReportFormat}
-use Rattle.ga_check_report.specs.EndJson.{ends_json}
-use Rattle.ga_check_report.specs.Answers.{ends_answer, ends_answer_by}
+use Rattle.std.proofs.Common.{List, ℕ, ◌++◌, refl}
+use Rattle.ga_json.proofs.Says.{begins, goes_on, cuts, ends_with}
+use Rattle.ga_check_report.specs.Answers.{ends_answer_by}
+use Rattle.ga_check_report.specs.SameEnd.{same_answer}
 use Rattle.ga_check_report.proofs.report.write_answer.Goals as goal
 
-pub returns-in-Json : goal.returns-in-Json
-returns-in-Json g c =
-    says_as g.W.Write.contents c.write_ends_json.result c.args.writer.now c.write_ends_json.new.writer (ends_json c.in-Json.file.now c.args.found.now)
-    (ends_answer c.args.request c.args.found.now) (ap (λ (f : ReportFormat). ends_answer_by f c.args.request c.args.found.now) (sym c.in-Json.is)) c.write_ends_json.ensures
+pub returns-in_err-write_kinds : goal.returns-in_err-write_kinds
+returns-in_err-write_kinds g c =
+    let text : List ℕ = ends_answer_by c.args.request.format c.args.request c.args.found.now in
+    let more : List ℕ = same_answer c.args.request c.args.found.now in
+    cuts c.from_residual.result c.write_kinds.new.writer text more c.from_residual.ensures.0 (begins g.W.Write.contents c.args.writer.now (text ++ more)) refl
+    c.in_err-write_kinds.ensures
+
+pub returns : goal.returns
+returns g c =
+    let text : List ℕ = ends_answer_by c.args.request.format c.args.request c.args.found.now in
+    let more : List ℕ = same_answer c.args.request c.args.found.now in
+    ends_with c.write_same.result c.write_same.new.writer
+    (goes_on c.write_kinds.new.writer text more (begins g.W.Write.contents c.args.writer.now (text ++ more)) refl c.in_ok-write_kinds.ensures) c.write_same.ensures

@@ -37,7 +37,7 @@ pub returns-in-At-clause-said : goal.returns-in-At-clause-said
 returns-in-At-clause-said g c = record {
   meant = query.At c.in-At.node c.in-At.which c.in-At.most;
   is = c.in-At.is;
-  said = rw (← c.resolve-step-in-At.ensures) (line_is g.W.Write.contents c.write_at_json.result c.args.writer.now c.write_at_json.new.writer (at_json c.args.lab.now c.in-At.node c.resolve-step-in-At.result c.in-At.most) c.write_at_json.ensures);
+  said = rw (← c.resolve-step-in-At.ensures) (line_is g.W.Write.contents c.write_at_json.result c.args.writer.now c.write_at_json.new.writer (at_json c.args.notes.now c.args.lab.now c.in-At.node c.resolve-step-in-At.result c.in-At.most) c.write_at_json.ensures);
 }
 
 pub returns-in-Whence-clause-said : goal.returns-in-Whence-clause-said
@@ -51,7 +51,7 @@ pub returns-in-Because-clause-said : goal.returns-in-Because-clause-said
 returns-in-Because-clause-said g c = record {
   meant = query.Because c.in-Because.node c.in-Because.which c.in-Because.most;
   is = c.in-Because.is;
-  said = rw (← c.resolve-step-in-Because.ensures) (line_is g.W.Write.contents c.write_because_json.result c.args.writer.now c.write_because_json.new.writer (because_json c.args.lab.now c.in-Because.node c.resolve-step-in-Because.result c.in-Because.most) c.write_because_json.ensures);
+  said = rw (← c.resolve-step-in-Because.ensures) (line_is g.W.Write.contents c.write_because_json.result c.args.writer.now c.write_because_json.new.writer (because_json c.args.notes.now c.args.lab.now c.in-Because.node c.resolve-step-in-Because.result c.in-Because.most) c.write_because_json.ensures);
 }
 
 pub returns-in-Chip-clause-said : goal.returns-in-Chip-clause-said

@@ -16,6 +16,6 @@ returns g c =
     let last : near.step ≡ min (c.args.step + c.args.around) count =
     ap (λ (z : NodeAtStep). z.step) c.walk.ensures ∙ omega (arith, c.saturating_add.ensures, c.min-last.ensures, c.steps.ensures.steps, c.steps.type_inv) in
     report_as g.W.Write.contents c.write_report.result c.args.writer.now c.write_report.new.writer c.at_answer_fields-head.result
-    (at_answer_fields c.args.node c.args.step) (step_rows s n place (near.step - place)) (step_rows_around s c.args.node c.args.step c.args.around) c.at_answer_fields-head.ensures
-    (ap (λ (z : ℕ). step_rows s n z (near.step - z)) first ∙ ap (λ (z : ℕ). step_rows s n (c.args.step - 1 - c.args.around) (z - (c.args.step - 1 - c.args.around))) last)
+    (at_answer_fields c.args.node c.args.step) (step_rows c.args.notes.now s c.args.node place (near.step - place)) (step_rows_around c.args.notes.now s c.args.node c.args.step c.args.around) c.at_answer_fields-head.ensures
+    (ap (λ (z : ℕ). step_rows c.args.notes.now s c.args.node z (near.step - z)) first ∙ ap (λ (z : ℕ). step_rows c.args.notes.now s c.args.node (c.args.step - 1 - c.args.around) (z - (c.args.step - 1 - c.args.around))) last)
     c.write_report.ensures

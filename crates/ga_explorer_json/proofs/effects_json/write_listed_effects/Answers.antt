@@ -8,5 +8,5 @@ pub returns : goal.returns
 returns g c =
     let effects = c.args.effects.now in
     report_as g.W.Write.contents c.write_report.result c.args.writer.now c.write_report.new.writer c.effects_fields-head.result
-    (effects_fields c.args.node c.args.step c.args.events (length effects)) (json_rows effect_json effects) (json_rows effect_json effects)
+    (effects_fields c.args.node c.args.step c.args.events (length effects)) (json_rows (effect_json c.args.notes.now c.args.lab.now) effects) (json_rows (effect_json c.args.notes.now c.args.lab.now) effects)
     c.effects_fields-head.ensures refl c.write_report.ensures

@@ -11,12 +11,13 @@ pub returns-in-Ok : goal.returns-in-Ok
 returns-in-Ok g c =
     let s = c.args.lab.now in
     let query = c.args.query in
+    let notes = query.notes.now in
     let found = c.in-Ok.found in
     let lines = c.as_slice-lines.result.now in
     let most : length found.lines.items ≤ last_written_line query.first = omega (arith, c.in-Ok.ensures.most, c.last_written_line-most.ensures) in
-    line_of g.W.Write.contents c.write_listed_lines.result c.args.writer.now c.write_listed_lines.new.writer (IsValueJson s query.node query.step query.first (Some c.args.value))
-    (provenance_lines_json s query.node query.step query.first c.args.value lines found.is_whole)
-    (lines_found s query.node query.step query.first c.args.value found.lines.items lines found.is_whole c.as_slice-lines.ensures.value c.in-Ok.ensures.lines most
+    line_of g.W.Write.contents c.write_listed_lines.result c.args.writer.now c.write_listed_lines.new.writer (IsValueJson notes s query.node query.step query.first (Some c.args.value))
+    (provenance_lines_json notes s query.node query.step query.first c.args.value lines found.is_whole)
+    (lines_found notes s query.node query.step query.first c.args.value found.lines.items lines found.is_whole c.as_slice-lines.ensures.value c.in-Ok.ensures.lines most
     (λ (e : found.is_whole ≡ false). c.in-Ok.ensures.cut e ∙ c.last_written_line-most.ensures))
     c.write_listed_lines.ensures
 
@@ -24,5 +25,6 @@ pub returns-in-Err : goal.returns-in-Err
 returns-in-Err g c =
     let s = c.args.lab.now in
     let query = c.args.query in
-    line_of g.W.Write.contents c.write_lab_refusal.result c.args.writer.now c.write_lab_refusal.new.writer (IsValueJson s query.node query.step query.first (Some c.args.value))
+    let notes = query.notes.now in
+    line_of g.W.Write.contents c.write_lab_refusal.result c.args.writer.now c.write_lab_refusal.new.writer (IsValueJson notes s query.node query.step query.first (Some c.args.value))
     (lab_refusal_json (codes "whence") Memory) (inl refl) c.write_lab_refusal.ensures

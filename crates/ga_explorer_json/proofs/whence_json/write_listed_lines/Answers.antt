@@ -12,6 +12,7 @@ pub returns : goal.returns
 returns g c =
     let s = c.args.lab.now in
     let query = c.args.query in
+    let notes = query.notes.now in
     let value = c.args.value in
     let lines = c.args.lines.now in
     let skipped = c.saturating_sub-skipped.result in
@@ -20,10 +21,10 @@ returns g c =
     let named = value_fields value.part (word_of_value s value) in
     let back : skipped ≡ query.first - 1 = omega (arith, c.saturating_sub-skipped.ensures) in
     report_as g.W.Write.contents c.write_report.result c.args.writer.now c.write_report.new.writer c.as_slice.result.now
-    (whence_fields query.node query.step query.first named (next_provenance_line (length lines) c.args.is_whole)) (provenance_line_rows s skipped rest) (provenance_line_rows s (query.first - 1) (drop (query.first - 1) lines))
+    (whence_fields notes s query.node query.step query.first named (next_provenance_line (length lines) c.args.is_whole)) (provenance_line_rows notes s skipped rest) (provenance_line_rows notes s (query.first - 1) (drop (query.first - 1) lines))
     (ap (λ (z : List Field). map named_field_value z) c.as_slice.ensures.value
     ∙ c.query_row-head.ensures
-    ∙ ap (λ (z : List NamedValue). whence_fields query.node query.step query.first z more) (c.value_fields.ensures ∙ ap (value_fields value.part) c.word_of_value-word.ensures)
-    ∙ ap (λ (z : Option ℕ). whence_fields query.node query.step query.first named z) c.next_provenance_line-more.ensures)
-    (ap (provenance_line_rows s skipped) c.provenance_lines_after.ensures ∙ ap (λ (z : ℕ). provenance_line_rows s z (drop z lines)) back)
+    ∙ ap (λ (z : List NamedValue). whence_fields notes s query.node query.step query.first z more) (c.value_fields.ensures ∙ ap (value_fields value.part) c.word_of_value-word.ensures)
+    ∙ ap (λ (z : Option ℕ). whence_fields notes s query.node query.step query.first named z) c.next_provenance_line-more.ensures)
+    (ap (provenance_line_rows notes s skipped) c.provenance_lines_after.ensures ∙ ap (λ (z : ℕ). provenance_line_rows notes s z (drop z lines)) back)
     c.write_report.ensures

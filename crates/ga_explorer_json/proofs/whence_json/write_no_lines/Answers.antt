@@ -10,8 +10,10 @@ use Rattle.ga_explorer_json.proofs.whence_json.write_no_lines.Goals as goal
 pub returns : goal.returns
 returns g c =
     let query = c.args.query in
+    let notes = query.notes.now in
+    let s = c.args.lab.now in
     report_as g.W.Write.contents c.write_report.result c.args.writer.now c.write_report.new.writer c.as_slice.result.now
-    (whence_fields query.node query.step query.first no_value_fields None) no_items no_items
+    (whence_fields notes s query.node query.step query.first no_value_fields None) no_items no_items
     (ap (λ (z : List Field). map named_field_value z) c.as_slice.ensures.value
     ∙ c.query_row-head.ensures
-    ∙ ap (λ (z : List NamedValue). whence_fields query.node query.step query.first z None) c.no_value_fields.ensures) refl c.write_report.ensures
+    ∙ ap (λ (z : List NamedValue). whence_fields notes s query.node query.step query.first z None) c.no_value_fields.ensures) refl c.write_report.ensures

@@ -13,10 +13,11 @@ use Rattle.ga_explorer_json.proofs.whence_json.write_whence_json.Goals as goal
 
 pub returns-then-not-has_step : goal.returns-then-not-has_step
 returns-then-not-has_step g c =
+    let notes = c.args.notes.now in
     let s = c.args.lab.now in
     let refusal = step_refusal_json (codes "whence") c.args.node (count_steps c.args.node.number s.kept) NoStep in
-    line_of g.W.Write.contents c.write_step_refusal.result c.args.writer.now c.write_step_refusal.new.writer (IsWhenceJson s c.args.node c.args.step c.args.part c.args.first)
-    refusal (whence_nowhere s c.args.node c.args.step c.args.part c.args.first (sym c.has_step.ensures.value ∙ c.if-not-has_step.true))
+    line_of g.W.Write.contents c.write_step_refusal.result c.args.writer.now c.write_step_refusal.new.writer (IsWhenceJson notes s c.args.node c.args.step c.args.part c.args.first)
+    refusal (whence_nowhere notes s c.args.node c.args.step c.args.part c.args.first (sym c.has_step.ensures.value ∙ c.if-not-has_step.true))
     (answer_as g.W.Write.contents c.write_step_refusal.result c.args.writer.now c.write_step_refusal.new.writer (step_refusal_json (codes "whence") c.args.node c.steps-count.result NoStep) refusal
     (counted (codes "whence") c.args.node _ _ NoStep c.steps-count.ensures.steps) c.write_step_refusal.ensures)
 
@@ -25,6 +26,7 @@ selected_value-requires-clause-near g c = has_step_so c.args.lab.now c.args.node
 
 pub returns-in-Some : goal.returns-in-Some
 returns-in-Some g c =
+    let notes = c.args.notes.now in
     let s = c.args.lab.now in
     let node = c.args.node in
     let step = c.args.step in
@@ -32,18 +34,19 @@ returns-in-Some g c =
     let first = c.args.first in
     let value = Some c.in-Some.value in
     let at : c.walk-near.result.step ≡ step = ap (λ (z : NodeAtStep). z.step) c.walk-near.ensures in
-    line_as g.W.Write.contents c.write_lines.result c.args.writer.now c.write_lines.new.writer (IsValueJson s node step first value) (IsWhenceJson s node step part first)
-    (λ answer h. whence_here s node step part first value answer (sym c.has_step.ensures.value ∙ c.if-not-has_step.false)
+    line_as g.W.Write.contents c.write_lines.result c.args.writer.now c.write_lines.new.writer (IsValueJson notes s node step first value) (IsWhenceJson notes s node step part first)
+    (λ answer h. whence_here notes s node step part first value answer (sym c.has_step.ensures.value ∙ c.if-not-has_step.false)
     (c.in-Some.ensures.value ∙ ap (λ (k : ℕ). selected_value s node k part) at) h) c.write_lines.ensures
 
 pub returns-in-None : goal.returns-in-None
 returns-in-None g c =
+    let notes = c.args.notes.now in
     let s = c.args.lab.now in
     let node = c.args.node in
     let step = c.args.step in
     let part = c.args.part in
     let first = c.args.first in
     let at : c.walk-near.result.step ≡ step = ap (λ (z : NodeAtStep). z.step) c.walk-near.ensures in
-    line_of g.W.Write.contents c.write_no_lines.result c.args.writer.now c.write_no_lines.new.writer (IsWhenceJson s node step part first) (no_provenance_lines_json node step first)
-    (whence_here s node step part first None (no_provenance_lines_json node step first) (sym c.has_step.ensures.value ∙ c.if-not-has_step.false)
+    line_of g.W.Write.contents c.write_no_lines.result c.args.writer.now c.write_no_lines.new.writer (IsWhenceJson notes s node step part first) (no_provenance_lines_json notes s node step first)
+    (whence_here notes s node step part first None (no_provenance_lines_json notes s node step first) (sym c.has_step.ensures.value ∙ c.if-not-has_step.false)
     (c.in-None.ensures.value ∙ ap (λ (k : ℕ). selected_value s node k part) at) refl) c.write_no_lines.ensures

@@ -13,7 +13,7 @@ returns-in_err-write_blocks g c = (
       let more = slot ++ codes "\n" in
       let whole = source_suffix_line c.args.notes.now c.args.node c.args.cell c.args.slot in
       truncated_here c.from_residual.result _ before (said ++ whole) _ c.from_residual.ensures.0
-      (truncated_within _ before said c.noted.result.now more whole (ap (λ (t : List ℕ). t ++ more) c.noted.ensures ∙ sym (append_assoc cell slot (codes "\n")))
+      (truncated_within _ before said c.cell_note_text.result.now more whole (ap (λ (t : List ℕ). t ++ more) c.cell_note_text.ensures ∙ sym (append_assoc cell slot (codes "\n")))
       (c.in_err-write_blocks.ensures.1 before said h)),
 )
 
@@ -22,12 +22,12 @@ returns-in_err-write_blocks-2 g c = (
   search rules,
   λ before said h.
       let cell = cell_note_text c.args.notes.now c.args.node c.args.cell in
-      let text : List ℕ = c.noted.result.now in
+      let text : List ℕ = c.cell_note_text.result.now in
       let slot : List ℕ = c.slot_note_text.result.now in
       let whole = source_suffix_line c.args.notes.now c.args.node c.args.cell c.args.slot in
       truncated_here c.from_residual-in_err-write_blocks-2.result _ before (said ++ whole) _ c.from_residual-in_err-write_blocks-2.ensures.0
       (truncated_within _ before said (text ++ slot) (codes "\n") whole
-      (ap (λ (t : List ℕ). (t ++ slot) ++ codes "\n") c.noted.ensures ∙ ap (λ (t : List ℕ). (cell ++ t) ++ codes "\n") c.slot_note_text.ensures)
+      (ap (λ (t : List ℕ). (t ++ slot) ++ codes "\n") c.cell_note_text.ensures ∙ ap (λ (t : List ℕ). (cell ++ t) ++ codes "\n") c.slot_note_text.ensures)
       (cut_assoc _ before said text slot (c.in_err-write_blocks-2.ensures.1 before (said ++ text) (c.in_ok-write_blocks.ensures.1 before said h)))),
 )
 
@@ -36,10 +36,10 @@ returns g c = (
   search rules,
   λ before said h.
       let cell = cell_note_text c.args.notes.now c.args.node c.args.cell in
-      let text : List ℕ = c.noted.result.now in
+      let text : List ℕ = c.cell_note_text.result.now in
       let slot : List ℕ = c.slot_note_text.result.now in
       text_as c.write_text.result _ before said ((text ++ slot) ++ codes "\n") (source_suffix_line c.args.notes.now c.args.node c.args.cell c.args.slot) _
-      (ap (λ (t : List ℕ). (t ++ slot) ++ codes "\n") c.noted.ensures ∙ ap (λ (t : List ℕ). (cell ++ t) ++ codes "\n") c.slot_note_text.ensures)
+      (ap (λ (t : List ℕ). (t ++ slot) ++ codes "\n") c.cell_note_text.ensures ∙ ap (λ (t : List ℕ). (cell ++ t) ++ codes "\n") c.slot_note_text.ensures)
       (joined_written c.write_text.result _ before said (text ++ slot) (codes "\n") _ (c.write_text.ensures.1 before (said ++ (text ++ slot))
       (said_assoc _ before said text slot _ (c.in_ok-write_blocks-2.ensures.1 before (said ++ text) (c.in_ok-write_blocks.ensures.1 before said h))))),
 )

@@ -8,17 +8,18 @@ pub returns-then-place-step : goal.returns-then-place-step
 returns-then-place-step c =
     let rows = c.args.self.now in
     let past : rows.near.step ≤ rows.place = omega (arith, c.if-place-step.true, c.step.ensures.value) in record {
-      row = no_step rows.lab.now rows.node.number rows.place rows.near.step past;
+      row = no_step rows.notes.now rows.lab.now rows.node rows.place rows.near.step past;
     }
 
 pub returns : goal.returns
 returns c =
     let rows = c.args.self.now in
     let s = rows.lab.now in
-    let n = rows.node.number in
+    let node = rows.node in
+    let notes = rows.notes.now in
     let place = rows.place in
     let last = rows.near.step in
     let below : place < last = omega (arith, c.if-place-step.false, c.step.ensures.value) in record {
-      row = next_step s n place last below
-          ∙ row_from c.row_of_walk.result (step_json_at s n (place + 1)) (step_rows s n (place + 1) (last - (place + 1))) c.row_of_walk.ensures;
+      row = next_step notes s node place last below
+          ∙ row_from c.row_of_walk.result (step_json_at notes s node (place + 1)) (step_rows notes s node (place + 1) (last - (place + 1))) c.row_of_walk.ensures;
     }
