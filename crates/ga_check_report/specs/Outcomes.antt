@@ -31,7 +31,7 @@ use Rattle.ga_check_report.specs.declared.report.Verdict.{Verdict}
 use Rattle.ga_check_report.specs.declared.report.Verdict.TheVariants as verdict
 use Rattle.ga_check_report.specs.EndTexts.{is_fully_explored}
 use Rattle.ga_check_report.specs.Never.{HasReachedEvent}
-use Rattle.ga_check_report.specs.Observations.{observation_of_node}
+use Rattle.ga_state_expectations.specs.Observations.{observation_of_node}
 
 -- ---- what was found
 

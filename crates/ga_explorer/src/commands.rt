@@ -19,8 +19,8 @@ use ga_console::StepSelector;
 use ga_debug_info::DebugInfo;
 use ga_event::NodePart;
 use ga_explorer_text::{
-    chip_overview, write_because, write_cell_writes, write_effects, write_link_words, write_races,
-    write_save, write_steps_around, write_whence, write_who,
+    chip_overview, write_because, write_cell_writes, write_effects, write_expectations,
+    write_link_words, write_races, write_save, write_steps_around, write_whence, write_who,
 };
 use ga_grid::NodeId;
 use ga_lab::Lab;
@@ -90,6 +90,8 @@ pub enum Query {
     Races {
         only: Option<NodeId>,
     },
+    /// `expectations`: writes how each expectation of the source stands.
+    Expectations,
     /// `who`: writes who waits for whom, and which nodes are deadlocked.
     Who,
     /// `chip`: shows what each node does.
@@ -135,6 +137,7 @@ fn bare_query(name: &[u8]) -> Option<Query>
     match name {
         b"who" => Some(Query::Who),
         b"races" => Some(Query::Races { only: None }),
+        b"expectations" => Some(Query::Expectations),
         b"chip" => Some(Query::Chip),
         b"save" => Some(Query::Save),
         b"help" => Some(Query::Help),
@@ -237,6 +240,7 @@ pub(crate) fn answer_query<W: Write>(
             write_because(lab, notes, node, step, most, writer)
         }
         Query::Races { only } => write_races(alloc, lab, only, writer),
+        Query::Expectations => write_expectations(alloc, lab, notes, writer),
         Query::Who => write_who(lab, writer),
         Query::Chip => writer.write_blocks(chip_overview(lab).as_slice()),
         Query::Save => write_save(lab, writer),

@@ -8,6 +8,7 @@ ghost use Rattle.ga_explorer.specs.Answers.{AnswersLineOrQuits, AnswersOutsideEx
 ghost use Rattle.ga_console.specs.Session.{AnswersOrQuits};
 
 use crate::commands::{ExplorerCommand, answer_query, parse_command};
+use crate::expecting::{write_back, write_run};
 use crate::forms::write_syntax_error;
 use ga_console::{
     Command, LineAction, Responder, answer_in_wording, execute_in_wording, parse_debugger_command,
@@ -16,7 +17,7 @@ use ga_debug_info::DebugInfo;
 use ga_display::RefusalWording;
 use ga_image::LINE_LIMIT;
 use ga_lab::Lab;
-use ga_scheduler::{active_conditions, run_schedule};
+use ga_scheduler::active_conditions;
 use ga_text::{WriteError, WriteResult, Writer};
 use std::alloc::Global;
 use std::io::Write;
@@ -159,13 +160,17 @@ fn explored<W: Write>(
             schedule,
             most,
             until,
-        } => {
-            let watched = active_conditions(&until);
-            let ran = run_schedule(lab, schedule, u64::from(most), watched);
-            writer.write_blocks(ga_explorer_text::run_result_text(&ran, watched.len()).as_slice())
-        }
+        } => write_run(
+            alloc,
+            lab,
+            notes,
+            schedule,
+            most,
+            active_conditions(&until),
+            writer,
+        ),
         ExplorerCommand::BackUntil { only, until } => {
-            ga_explorer_text::write_back_until(lab, active_conditions(&until), only, writer)
+            write_back(alloc, lab, notes, active_conditions(&until), only, writer)
         }
         ExplorerCommand::AnswerQuery(question) => answer_query(alloc, lab, notes, question, writer),
     }

@@ -67,6 +67,7 @@ AnswersQueryJson e (query.Whence node which value first) answer =
     IsWhenceJson e.lab node (selected_step e.lab node which) (option_and_then part_of_node_value value) first answer
 AnswersQueryJson e (query.Because node which most) answer = answer ≡ because_json e.lab node (selected_step e.lab node which) most
 AnswersQueryJson e (query.Races only) answer = IsRacesJson e.lab only answer
+AnswersQueryJson e query.Expectations answer = IsQueryText (codes "expectations") e query.Expectations answer
 AnswersQueryJson e query.Who answer = IsWhoJson e.lab answer
 AnswersQueryJson e query.Chip answer = IsQueryText (codes "chip") e query.Chip answer
 AnswersQueryJson e query.Save answer = IsQueryText (codes "save") e query.Save answer

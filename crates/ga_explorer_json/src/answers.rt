@@ -182,6 +182,7 @@ fn answer_query_for_json<W: Write>(
             write_because_json(lab, node, step, most, writer)
         }
         Query::Races { only } => write_races_json(alloc, lab, only, writer),
+        Query::Expectations => write_query_text(alloc, lab, notes, b"expectations", asked, writer),
         Query::Who => write_who_json(lab, writer),
         Query::Chip => write_query_text(alloc, lab, notes, b"chip", asked, writer),
         Query::Save => write_query_text(alloc, lab, notes, b"save", asked, writer),

@@ -14,7 +14,7 @@ use Rattle.ga_node.specs.Table.{refusal}
 use Rattle.ga_node.specs.declared.kind.OwnEventKind.{OwnEventKind}
 use Rattle.ga_grid.specs.declared.node_id.NodeId.{NodeId}
 use Rattle.ga_grid.specs.Chip.{record_at}
-use Rattle.ga_scheduler.specs.declared.condition.Condition.TheVariants.{Never, Passes, PassesNumber, Steps, Stops, StopsAt, WaitsAt, HoldsValue, Reaches, Writes}
+use Rattle.ga_scheduler.specs.declared.condition.Condition.TheVariants.{Never, Passes, PassesNumber, Steps, Stops, StopsAt, WaitsAt, HoldsValue, Reaches, Writes, Broken}
 use Rattle.ga_scheduler.specs.declared.watching.Needs.{Needs}
 use Rattle.ga_scheduler.specs.inner.{AreCounted, is_one_of, may_fetch, lacks, Covers, IsNeeded}
 
@@ -85,6 +85,7 @@ guarded false x h = refl
 -- Where more is needed, what was needed is.
 pub covers_more : (a b : Needs) (one : Condition) → Covers a one → a.opcodes ≤ b.opcodes → (a.slot ≡ 4 → b.slot ≡ 4) → Covers b one
 covers_more a b Never h more fetches = tt
+covers_more a b Broken h more fetches = tt
 covers_more a b (Passes writer reader comparison word) h more fetches = tt
 covers_more a b (PassesNumber writer reader number) h more fetches = tt
 covers_more a b (Steps node step) h more fetches = omega (arith, h, more)
@@ -173,6 +174,7 @@ writes_not false s w off = refl
 held_own : (needs : Needs) (one : Condition) (s : State) (node : NodeId) (step : ℕ) (what : OwnEventKind) → Covers needs one → lacks needs (record_at (chip_of s) node.number) what ≡ true
     → holds_after_made_event one (made.Own node step what) s ≡ false
 held_own needs Never s node step what h off = refl
+held_own needs Broken s node step what h off = refl
 held_own needs (Passes writer reader comparison word) s node step what h off = refl
 held_own needs (PassesNumber writer reader number) s node step what h off = refl
 held_own needs (Steps at k) s node step what h off = absurd (none_lacks needs (record_at (chip_of s) node.number) what h off)

@@ -5,6 +5,7 @@ use Rattle.ga_event.specs.declared.made.Made.{Made}
 use Rattle.ga_event.specs.declared.made.Made.TheVariants as made
 use Rattle.ga_scheduler.specs.declared.words.Transfer.{Transfer}
 use Rattle.ga_scheduler.specs.Words.{transfer_of_event, transfer_count_of_event, numbered_transfers, is_transfer_over_link, link_end_node, link_transfer_count}
+use Rattle.ga_scheduler.specs.Tested.{IsRunStep}
 use Rattle.std.proofs.lemmas.Option.{none-some}
 use Rattle.ga_grid.specs.declared.node_id.NodeId.{NodeId}
 use Rattle.ga_event.specs.declared.event.Event.{Event}
@@ -221,7 +222,7 @@ none_over : (s : State) (e : Event) (w r : ℕ) → touches e w ≡ false → tr
 none_over s (event.Own n) w r h = refl
 none_over s (event.Pass a b side) w r h = other_writer (a.number == w) _ (b.number == r) h
 
-told_behind : (s : State) (e : Event) → IsSome (replay s.load s.kept) → refusal_of (chip_of s) e ≡ None
+pub told_behind : (s : State) (e : Event) → IsSome (replay s.load s.kept) → refusal_of (chip_of s) e ≡ None
     → outcomes_of_kept (with_event s (Ok e)) ≡ outcomes_of_kept s ++ (cause_of (chip_of s) e, (after (chip_of s) e).1) ∷ []
 told_behind s e some can =
     let r : Runs s = runs_of s some in
@@ -297,3 +298,9 @@ pub few_more : (until : Condition) (link : NodeId × NodeId) (s : State) (m : Ma
 few_more until link s m words is h =
     let here : link_transfer_count s link.0.number link.1.number ≡ words + transfer_count_of_event link.0.number link.1.number m = subst (λ o. count_over o s ≡ words + more_over o m) (sym is) h in
     omega (arith, here, few_words link.0.number link.1.number (history_of s link.0.number))
+
+-- a step of a run
+pub run_step_counts : (old new : State) (made : Made) → IsRunStep old new made → (writer reader : ℕ)
+    → link_transfer_count new writer reader ≡ link_transfer_count old writer reader + transfer_count_of_event writer reader made
+run_step_counts old new made h writer reader =
+    ap (λ (z : State). link_transfer_count z writer reader) h.moved ∙ counted_step old h.node made h.replays h.told writer reader

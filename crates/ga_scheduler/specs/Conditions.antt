@@ -17,7 +17,7 @@ use Rattle.ga_scheduler.specs.Words.{is_transfer_over_link, link_transfer_count}
 use Rattle.ga_scheduler.specs.Values.{holds_between, is_passed_by_node}
 use Rattle.ga_scheduler.specs.declared.value_test.Comparison.{Comparison}
 use Rattle.ga_scheduler.specs.declared.condition.Condition.{Condition}
-use Rattle.ga_scheduler.specs.declared.condition.Condition.TheVariants.{Never, Passes, PassesNumber, Steps, Stops, StopsAt, WaitsAt, HoldsValue, Reaches, Writes}
+use Rattle.ga_scheduler.specs.declared.condition.Condition.TheVariants.{Never, Passes, PassesNumber, Steps, Stops, StopsAt, WaitsAt, HoldsValue, Reaches, Writes, Broken}
 
 -- the event passed a word from the writer to the reader that compares so with this one
 abbrev pub is_matching_pass : ℕ → ℕ → Comparison → ℕ → Made → Bool
@@ -96,9 +96,10 @@ is_requested_word None word = true
 is_requested_word (Some asked) word = word == asked
 
 -- The condition holds right after this was made, where the machine is this. Memory from address 80 hexadecimal on is ROM, where no
--- event stores.
+-- event stores. Which expectations an event broke, only a test that has them knows.
 abbrev pub holds_after_made_event : Condition → Made → State → Bool
 holds_after_made_event Never told s = false
+holds_after_made_event Broken told s = false
 holds_after_made_event (Passes writer reader comparison word) told s = is_matching_pass writer.number reader.number comparison word told
 holds_after_made_event (PassesNumber writer reader number) told s = is_transfer_over_link writer.number reader.number told && (link_transfer_count s writer.number reader.number == number)
 holds_after_made_event (Steps node step) told s = is_node_step node.number step told
@@ -119,6 +120,7 @@ first_holding_condition (until ∷ others) told s = if holds_after_made_event un
 -- the condition holds never
 abbrev pub never_holds : Condition → Bool
 never_holds Never = true
+never_holds Broken = false
 never_holds (Passes writer reader comparison word) = false
 never_holds (PassesNumber writer reader number) = false
 never_holds (Steps node step) = false

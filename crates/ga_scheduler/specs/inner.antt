@@ -6,7 +6,7 @@ use Rattle.ga_event.specs.Told.{made_event_at_place}
 use Rattle.ga_event.specs.declared.made.Made.{Made}
 use Rattle.ga_lab.specs.Machine.{State, outcomes_of_kept, earlier_state}
 use Rattle.ga_scheduler.specs.declared.condition.Condition.{Condition}
-use Rattle.ga_scheduler.specs.declared.condition.Condition.TheVariants.{HoldsValue, Reaches, Writes, PassesNumber, Passes, Steps, Stops, StopsAt, WaitsAt, Never}
+use Rattle.ga_scheduler.specs.declared.condition.Condition.TheVariants.{HoldsValue, Reaches, Writes, PassesNumber, Passes, Steps, Stops, StopsAt, WaitsAt, Never, Broken}
 use Rattle.ga_scheduler.specs.Conditions.{holds_after_made_event, is_matching_pass, is_node_step, is_own_event_of_kind, is_node_own_event_of_kind, is_stop_event_kind, is_wait_kind}
 use Rattle.ga_scheduler.specs.Backward.{is_step_of_optional_node}
 use Rattle.std.specs.List.{slice_get}
@@ -176,6 +176,7 @@ lacks needs n (kind.Stop code) = false
 -- what a condition needs is among the needs
 abbrev pub Covers : Needs → Condition → Type 0
 Covers needs Never = Unit
+Covers needs Broken = Unit
 Covers needs (Passes writer reader comparison word) = Unit
 Covers needs (PassesNumber writer reader number) = Unit
 Covers needs (Steps node step) = 256 ≤ needs.opcodes

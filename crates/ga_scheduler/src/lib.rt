@@ -9,10 +9,12 @@ mod event_tests;
 mod idle;
 pub mod laws;
 mod numbers;
+mod oldest;
 mod ready;
 mod reverse_search;
 mod running;
 mod schedule;
+mod tested;
 mod value_test;
 mod watch;
 mod watched;
@@ -26,12 +28,17 @@ pub use event_tests::{
     is_stop_event_of, is_wait_event_of, stores_in_cell,
 };
 pub use idle::find_idle_nodes;
-pub use reverse_search::{back_until, find_newest_matching_event};
+pub use oldest::{earlier_place, find_oldest_matching_event};
+pub use ready::is_quiescent;
+pub use reverse_search::{
+    back_to_place, back_until, find_newest_matching_event, is_step_of_optional_node,
+};
 pub use running::{RunEnd, RunResult, run_schedule};
 pub use schedule::{Order, Schedule};
+pub use tested::{RunTest, run_tested};
 pub use value_test::{Comparison, NodeValue, ValueTest};
 pub use watch::StopCondition;
 pub use watched::{WatchedRun, WatchedRunEnd, has_stored_in_cell, run_watched};
 pub use watching::{MAX_CONDITIONS, active_conditions};
-pub use words::telling::count_transfers;
+pub use words::telling::{count_transfers, count_transfers_after, is_transfer_over_link};
 pub use words::{Transfer, TransferIter};
