@@ -51,10 +51,10 @@ pub enum Verdict {
 }
 
 /// Reads an image or source, as `explore` does, and nothing after its line `end`. Writes the kinds of its ends, whatever the order in which its
-/// nodes run, and with `request.same` whether there is one end; or, if a kind is named by its number, from 1 on, the lines `step NNN` that lead to the first of its ends. Stores at most
-/// `request.most` states; a session has at most `limit` events. With `settles` each node whose first event is to wait for code makes it
-/// before all else, in the order of their numbers, as on a real chip; a session has these steps first. The fault of a source is written to
-/// `errors`, a refused image and want of memory to `writer`. While it searches, `watch` has the number of states, and stops it.
+/// nodes run, and with `request.same` whether there is one end; or, if a kind is named by its number, from 1 on, the lines `step NNN` that
+/// lead to the first of its ends. Stores at most `request.most` states; a session has at most `limit` events. With `settles` each node whose
+/// first event is to wait for code makes it before all else, in the order of their numbers; a session has these steps first. The fault of a
+/// source is written to `errors`, a refused image and out of memory to `writer`. While it searches, `watch` has the number of states, and stops it.
 pub fn check_ends<R: Read, W: Write, E: Write>(
     alloc: Global,
     reader: &mut R,

@@ -33,7 +33,7 @@ quoted_text bytes = 34 ∷ (escaped_text bytes ++ 34 ∷ [])
 abbrev pub optional_comma : Bool → Text
 optional_comma later = if later then 44 ∷ [] else []
 
--- the decimal digits of a number of any size, without a leading zero, found in at most so many divisions
+-- The decimal digits of a number of any size, without a leading zero, by at most this number of divisions.
 unfoldable pub digits_by_division : ℕ → ℕ → Text
 digits_by_division zero n = []
 digits_by_division (suc most) n = if nat_lt n 10 then (48 + n) ∷ [] else digits_by_division most (n / 10) ++ (48 + n % 10) ∷ []
