@@ -7,15 +7,14 @@ use Rattle.ga_text.specs.Parsing.{split_at_space, parse_node}
 use Rattle.ga_ports.specs.Steps.{◌>>=◌}
 use Rattle.ga_lab.specs.Machine.{MachineState}
 use Rattle.ga_scheduler.specs.Conditions.{conditions_before_never}
-use Rattle.ga_scheduler.specs.Backward.{find_newest_matching_event, machine_after_back_until, event_count_removed_by_back_until}
-use Rattle.ga_scheduler.specs.Running.{scheduled_machine, run_after_events, CanMakeNextEvents, HasRunEnded}
 use Rattle.ga_scheduler.specs.Schedules.{round_robin_schedule}
 use Rattle.ga_scheduler.specs.declared.schedule.Schedule.{Schedule}
 use Rattle.ga_scheduler.specs.declared.condition.Condition.{Condition}
 use Rattle.ga_scheduler.specs.declared.running.RunEnd.{RunEnd}
 use Rattle.ga_debug_info.specs.declared.notes.DebugInfo.{DebugInfo}
-use Rattle.ga_explorer_text.specs.Texts.{run_end_text, back_until_result_text, link_words_text, chip_text}
+use Rattle.ga_explorer_text.specs.Texts.{link_words_text, chip_text}
 use Rattle.ga_explorer_text.specs.Effects.{IsRollbackEffectsAnswer}
+use Rattle.ga_explorer_text.specs.Expected.{IsExpectationsAnswer}
 use Rattle.ga_explorer_text.specs.Telling.{IsWaitingNodesAnswer}
 use Rattle.ga_explorer_text.specs.Saved.{saved_session_text}
 use Rattle.ga_explorer_text.specs.Writing.{cell_writes_answer_text}
@@ -26,6 +25,7 @@ use Rattle.ga_explorer_text.specs.Races.{IsRacesAnswer}
 use Rattle.ga_console.specs.Selectors.{selected_step_number}
 use Rattle.ga_explorer.specs.Reading.{part_of_node_value, parse_run_arguments, parse_back_arguments, default_max_run_events, parse_node_and_step, parse_two_nodes, parse_node_and_cell, parse_node_and_value, parse_node_and_steps}
 use Rattle.ga_conditions.specs.Conditions.{never_holding_conditions}
+use Rattle.ga_explorer.specs.Expecting.{AnswersRun, AnswersBack}
 use Rattle.ga_explorer.specs.Forms.{CommandEntry, entry_of_query_command, entry_of_changing_command, command_index_from_place, command_rows_text, optional_command_details_text}
 use Rattle.ga_explorer.specs.Opening.{ExplorerState}
 use Rattle.ga_explorer.specs.declared.commands.ExplorerCommand.{ExplorerCommand}
@@ -38,7 +38,7 @@ use Rattle.ga_explorer.specs.declared.commands.Query.TheVariants as told
 -- the commands of exploring and those of the debugger, in the order of `help`
 unfoldable pub command_table : List CommandEntry
 command_table =
-    entry_of_changing_command (codes "run") (codes "run [greedy|random SEED] [N] [until COND]") (codes "\n                      make up to N events, in rounds or in this order\nCOND: NNN VALUE OP N, pass NNN MMM OP N, pass NNN MMM J, step NNN K, stop, stop NNN,\n      wait NNN, mem NNN HH = N, p NNN X, reach NNN X, change NNN HH [= N], COND or COND\nVALUE: t s r p a b i, d2 to d9, r1 to r8, io, slot, carry, step, [HH]\nOP: = != < <= > >=   N: a number, a port, a label   X: an address, a label, line N\n") (codes "answers: reached M EVENT, made M, quiet M or full M: how many events, and why no more\nexample: run 1000 until stop or 001 t = 0x150\n")
+    entry_of_changing_command (codes "run") (codes "run [greedy|random SEED] [N] [until COND]") (codes "\n                      make up to N events, in rounds or in this order\nCOND: NNN VALUE OP N, pass NNN MMM OP N, pass NNN MMM J, step NNN K, stop, stop NNN,\n      wait NNN, mem NNN HH = N, p NNN X, reach NNN X, change NNN HH [= N], broken, COND or COND\nVALUE: t s r p a b i, d2 to d9, r1 to r8, io, slot, carry, step, [HH]\nOP: = != < <= > >=   N: a number, a port, a label   X: an address, a label, line N\n") (codes "answers: reached M EVENT, made M, quiet M or full M: how many events, and why no more\nexample: run 1000 until stop or 001 t = 0x150\n")
     ∷ entry_of_query_command (codes "chip") (codes "chip") (codes "                  what each node does\n") (codes "answers: rows 7 to 0 of nodes: . made no step, * runs, x stopped, @ waits for code, ? reads, ! writes\nexample: chip\n")
     ∷ entry_of_query_command (codes "who") (codes "who") (codes "                   who waits for whom, and which nodes can never go on\n") (codes "answers: for each that waits what it does, and the nodes that it awaits; then stuck, ring, ended and idle\nexample: who\n")
     ∷ entry_of_query_command (codes "effects") (codes "effects NNN K") (codes "         what rewind NNN K would remove\n") (codes "answers: effects X N, and for each of N nodes its first step that it would remove, and their number\nexample: effects 001 last\n")
@@ -48,6 +48,7 @@ command_table =
     ∷ entry_of_query_command (codes "whence") (codes "whence NNN K [VALUE] [from L]") (codes "\n                      the steps whose values went into what step K of NNN made, or\n                      into a register, a word of a stack or a cell as it is after step K\n") (codes "answers: the nearest 100, each with its number and > the number of the step that used its value\nexample: whence 001 last, or whence 001 last r\n")
     ∷ entry_of_query_command (codes "because") (codes "because NNN K [N]") (codes "     N steps before step K at which a value decided where NNN continued\nK of effects, at, whence, because: a step's number, or last\n") (codes "answers: for each the step and the word that it tested, and below it the step that made that word\nexample: because 001 last\n")
     ∷ entry_of_query_command (codes "races") (codes "races [NNN]") (codes "           steps that yield another word in another order, and how\n") (codes "answers: races N, and for each of N steps the other word, and two commands that lead there\nexample: races 001\n")
+    ∷ entry_of_query_command (codes "expectations") (codes "expectations") (codes "          how each line expect of the source stands\n") (codes "answers: for each whether it is held, broken and by what, or pending: it depends on what comes or on other orders\nexample: expectations\n")
     ∷ entry_of_query_command (codes "save") (codes "save") (codes "                  the history as lines of debug\n") (codes "answers: step NNN for each event, the oldest first\nexample: save\n")
     ∷ entry_of_query_command (codes "help") (codes "help [COMMAND]") (codes "        these lines, or more of one command\n") (codes "answers: the command's form and what it does, what it answers, and an example\nexample: help why\n")
     ∷ entry_of_changing_command (codes "step") (codes "step NNN") (codes "              make the next event of NNN\n") (codes "answers: NNN K and what the step did, or pass WWW K RRR J W: it moved the word W from WWW to RRR\nexample: step 001\n")
@@ -77,6 +78,7 @@ unfoldable pub query_without_arguments : Line → Option Query
 query_without_arguments name =
     if pointwise nat_eq name (codes "who") then Some told.WaitingNodes
     else if pointwise nat_eq name (codes "races") then Some (told.Races None)
+    else if pointwise nat_eq name (codes "expectations") then Some told.Expectations
     else if pointwise nat_eq name (codes "chip") then Some told.Chip
     else if pointwise nat_eq name (codes "save") then Some told.Save
     else if pointwise nat_eq name (codes "help") then Some told.Help
@@ -130,17 +132,6 @@ explorer_command_of_line notes line = explorer_command_of_split_line notes (spli
 
 -- ---- what one of exploring answers
 
--- Events were made in the order of the schedule, at most `most`, up to the first after which one of the conditions holds: the
--- text has how many and why the run ended, and the machine is the one after them.
-pub record IsRunResult (s : MachineState) (schedule : Schedule) (most : ℕ) (until : List Condition) (answer : Text) (new : MachineState) : Type 0 where
-  pub events : ℕ
-  pub end : RunEnd
-  pub made : CanMakeNextEvents (scheduled_machine s schedule) events
-  pub within : events ≤ most
-  pub ended : HasRunEnded (scheduled_machine s schedule) most until events end
-  pub state : new ≡ (run_after_events (scheduled_machine s schedule) events).state
-  pub text : answer ≡ run_end_text (length until) events end
-
 -- the text of a query's answer
 abbrev pub AnswersQuery : ExplorerState → Query → Text → Type 0
 AnswersQuery e (told.Effects node which) answer = IsRollbackEffectsAnswer e.notes e.lab node (selected_step_number e.lab node which) answer
@@ -150,6 +141,7 @@ AnswersQuery e (told.StepsAround node which around) answer = answer ≡ steps_ar
 AnswersQuery e (told.Whence node which value first) answer = IsValueOriginsAnswer e.notes e.lab node (selected_step_number e.lab node which) (option_and_then part_of_node_value value) first answer
 AnswersQuery e (told.Because node which most) answer = answer ≡ decisions_before_step_text e.notes e.lab node (selected_step_number e.lab node which) most
 AnswersQuery e (told.Races only) answer = IsRacesAnswer e.lab only answer
+AnswersQuery e told.Expectations answer = IsExpectationsAnswer e.notes e.lab answer
 AnswersQuery e told.WaitingNodes answer = IsWaitingNodesAnswer e.lab answer
 AnswersQuery e told.Chip answer = answer ≡ chip_text e.lab
 AnswersQuery e told.Save answer = answer ≡ saved_session_text e.lab
@@ -158,8 +150,6 @@ AnswersQuery e (told.CommandHelp place) answer = answer ≡ command_help_text pl
 
 -- what is answered to a command of exploring, and what is explored then
 abbrev pub AnswersExplorerCommand : ExplorerState → ExplorerCommand → Text → ExplorerState → Type 0
-AnswersExplorerCommand e (asked.Run schedule most until) answer new = IsRunResult e.lab schedule most (conditions_before_never until) answer new.lab × (new.notes ≡ e.notes)
-AnswersExplorerCommand e (asked.BackUntil only until) answer new =
-    (answer ≡ back_until_result_text (event_count_removed_by_back_until only e.lab (find_newest_matching_event (conditions_before_never until) only e.lab)) (length new.lab.kept))
-    × (new.lab ≡ machine_after_back_until only e.lab (find_newest_matching_event (conditions_before_never until) only e.lab)) × (new.notes ≡ e.notes)
+AnswersExplorerCommand e (asked.Run schedule most until) answer new = AnswersRun e.notes e.lab schedule most (conditions_before_never until) answer new.lab × (new.notes ≡ e.notes)
+AnswersExplorerCommand e (asked.BackUntil only until) answer new = AnswersBack e.notes e.lab (conditions_before_never until) only answer new.lab × (new.notes ≡ e.notes)
 AnswersExplorerCommand e (asked.AnswerQuery question) answer new = AnswersQuery e question answer × (new ≡ e)

@@ -1,6 +1,7 @@
 pub mod Forms
 pub mod Reading
 pub mod Leading
+pub mod Expecting
 pub mod Commands
 pub mod Classes
 pub mod NoCommand

@@ -19,7 +19,7 @@ use ga_console::StepSelector;
 use ga_debug_info::DebugInfo;
 use ga_event::NodePart;
 use ga_explorer_text::{
-    chip_overview, write_cell_writes, write_decisions_answer, write_link_words,
+    chip_overview, write_cell_writes, write_decisions_answer, write_expectations, write_link_words,
     write_provenance_answer, write_races, write_rollback_effects, write_saved_session,
     write_steps_around, write_waiting_nodes,
 };
@@ -91,6 +91,8 @@ pub enum Query {
     Races {
         only: Option<NodeId>,
     },
+    /// `expectations`: writes how each expectation of the source stands.
+    Expectations,
     /// `who`: writes who waits for whom, and which nodes are deadlocked.
     WaitingNodes,
     /// `chip`: shows what each node does.
@@ -136,6 +138,7 @@ fn query_without_arguments(name: &[u8]) -> Option<Query>
     match name {
         b"who" => Some(Query::WaitingNodes),
         b"races" => Some(Query::Races { only: None }),
+        b"expectations" => Some(Query::Expectations),
         b"chip" => Some(Query::Chip),
         b"save" => Some(Query::Save),
         b"help" => Some(Query::Help),
@@ -238,6 +241,7 @@ pub(crate) fn answer_query<W: Write>(
             write_decisions_answer(lab, notes, node, step, most, writer)
         }
         Query::Races { only } => write_races(alloc, lab, only, writer),
+        Query::Expectations => write_expectations(alloc, lab, notes, writer),
         Query::WaitingNodes => write_waiting_nodes(lab, writer),
         Query::Chip => writer.write_blocks(chip_overview(lab).as_slice()),
         Query::Save => write_saved_session(lab, writer),

@@ -8,6 +8,7 @@ ghost use Rattle.ga_explorer.specs.Answers.{AnswersLineOrQuits, AnswersNonExplor
 ghost use Rattle.ga_console.specs.Session.{AnswersOrQuitsLine};
 
 use crate::commands::{ExplorerCommand, answer_query, parse_explorer_command};
+use crate::expecting::{write_back, write_run};
 use crate::forms::write_syntax_error;
 use ga_console::{
     DebuggerCommand, LineAction, Responder, answer_line_in_wording, execute_command_in_wording,
@@ -17,7 +18,7 @@ use ga_debug_info::DebugInfo;
 use ga_display::RefusalWording;
 use ga_image::MAX_IMAGE_LINE_BYTES;
 use ga_lab::Lab;
-use ga_scheduler::{conditions_before_never, run_schedule};
+use ga_scheduler::conditions_before_never;
 use ga_text::{WriteError, WriteResult, Writer};
 use std::alloc::Global;
 use std::io::Write;
@@ -160,14 +161,20 @@ fn explored<W: Write>(
             schedule,
             most,
             until,
-        } => {
-            let watched = conditions_before_never(&until);
-            let ran = run_schedule(lab, schedule, u64::from(most), watched);
-            writer.write_blocks(ga_explorer_text::run_result_text(&ran, watched.len()).as_slice())
-        }
+        } => write_run(
+            alloc,
+            lab,
+            notes,
+            schedule,
+            most,
+            conditions_before_never(&until),
+            writer,
+        ),
         ExplorerCommand::BackUntil { only, until } => {
-            ga_explorer_text::answer_back_until_command(
+            write_back(
+                alloc,
                 lab,
+                notes,
                 conditions_before_never(&until),
                 only,
                 writer,

@@ -6,6 +6,7 @@ mod back_request;
 mod beginning;
 mod command_table;
 mod commands;
+mod expecting;
 mod explorer;
 mod forms;
 pub mod laws;
@@ -20,6 +21,9 @@ mod strict;
 
 pub use beginning::open_lab;
 pub use commands::{ExplorerCommand, Query, parse_explorer_command};
+pub use expecting::{
+    ExpectingRefusal, expecting_refusal_text, go_back_with_expectations, run_with_expectations,
+};
 pub use explorer::{Explorer, answer_explorer_line};
 pub use forms::{CommandClass, QueryUsage, command_class_of_line, command_suggestion};
 pub use named_value::part_of_node_value;

@@ -258,6 +258,7 @@ query_utf8 e (query.Whence node which queried first) answer h =
     whence_utf8 e.notes e.lab node (selected_step_number e.lab node which) (option_and_then part_of_node_value queried) first answer h
 query_utf8 e (query.Because node which most) answer h = as_value answer _ h (because_utf8 e.notes e.lab node (selected_step_number e.lab node which) most)
 query_utf8 e (query.Races only) answer h = races_utf8 e.lab only answer h
+query_utf8 e query.Expectations answer h = as_value answer _ h.2 (text_utf8 (codes "expectations") h.0 (plain (codes "expectations") refl))
 query_utf8 e query.WaitingNodes answer h = who_utf8 e.lab answer h
 query_utf8 e query.Chip answer h = as_value answer _ h.2 (text_utf8 (codes "chip") h.0 (plain (codes "chip") refl))
 query_utf8 e query.Save answer h = as_value answer _ h.2 (text_utf8 (codes "save") h.0 (plain (codes "save") refl))

@@ -67,6 +67,7 @@ AnswersQueryJson e (query.Whence node which value first) answer =
     IsProvenanceJson e.notes e.lab node (selected_step_number e.lab node which) (option_and_then part_of_node_value value) first answer
 AnswersQueryJson e (query.Because node which most) answer = answer ≡ decisions_answer_json e.notes e.lab node (selected_step_number e.lab node which) most
 AnswersQueryJson e (query.Races only) answer = IsRacesJson e.lab only answer
+AnswersQueryJson e query.Expectations answer = IsTextAnswerOfQuery (codes "expectations") e query.Expectations answer
 AnswersQueryJson e query.WaitingNodes answer = IsWaitingNodesJson e.lab answer
 AnswersQueryJson e query.Chip answer = IsTextAnswerOfQuery (codes "chip") e query.Chip answer
 AnswersQueryJson e query.Save answer = IsTextAnswerOfQuery (codes "save") e query.Save answer

@@ -191,6 +191,7 @@ fn answer_query_for_json<W: Write>(
             write_decisions_json(lab, notes, node, step, most, writer)
         }
         Query::Races { only } => write_races_json(alloc, lab, only, writer),
+        Query::Expectations => write_query_text(alloc, lab, notes, b"expectations", asked, writer),
         Query::WaitingNodes => write_waiting_nodes_json(lab, writer),
         Query::Chip => write_query_text(alloc, lab, notes, b"chip", asked, writer),
         Query::Save => write_query_text(alloc, lab, notes, b"save", asked, writer),
