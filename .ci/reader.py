@@ -17,7 +17,7 @@ CRATES = f"{TOP}/crates"
 INTERFACES = {
     "Lab": [(f"ga_lab/src/{it}.rt", {"Lab", "NodeWalk", "Backward"}) for it in ("lab", "lab/backward", "lab/explaining", "lab/listing", "lab/steps", "lab/walking")],
     "session": [("ga_console/src/run.rt", {"session"})],
-    "SharedChip": [(f"ga_shared/src/{it}.rt", None) for it in ("shared", "locked", "workers", "racing", "closing")],
+    "SharedLab": [(f"ga_shared/src/{it}.rt", None) for it in ("shared", "locked", "workers", "racing", "closing")],
     "race": [("ga_console/src/race.rt", None)],
 }
 NAME = r"[^\W\d]['\w-]*"

@@ -20,7 +20,7 @@ impl ProgramFiles for Files<'_> {
         match read_file(self.rt, path) {
             Ok(text) => {
                 if text.len() as u64 > MAX_FILE_BYTES {
-                    return Err(SourceError::TooLong);
+                    return Err(SourceError::FileTooLong);
                 }
                 Ok(text)
             }
@@ -32,9 +32,9 @@ impl ProgramFiles for Files<'_> {
 fn cause_of(kind: ErrorKind) -> SourceError {
     match kind {
         ErrorKind::OutOfMemory => SourceError::Memory,
-        ErrorKind::NotFound => SourceError::Missing,
-        ErrorKind::IsADirectory => SourceError::Folder,
-        _ => SourceError::Unreadable,
+        ErrorKind::NotFound => SourceError::MissingFile,
+        ErrorKind::IsADirectory => SourceError::PathIsFolder,
+        _ => SourceError::UnreadableFile,
     }
 }
 
@@ -55,7 +55,7 @@ pub fn serve_editor<R: Read, A: PendingInput>(
     match serve_client(rt.alloc(), &mut sources, arrivals, reader, &mut writer) {
         SessionEnd::Done => ExitCode::from(0),
         SessionEnd::Memory => report_adapter_out_of_memory(rt),
-        SessionEnd::Broken(why) => {
+        SessionEnd::BrokenFrame(why) => {
             let _ = eprintln!(rt; "ga144: {why}");
             ExitCode::from(2)
         }

@@ -113,7 +113,7 @@ impl PendingInput for InputProbe {
     // When input comes can't be specified here.
     ghost tells = { λ host told after. Unit {0} };
 
-    fn have_come(&mut self) -> bool {
+    fn have_requests_come(&mut self) -> bool {
         !self.parts.is_empty()
     }
 }

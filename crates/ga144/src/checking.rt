@@ -1,8 +1,9 @@
 //! `ga144 check`: the search for the ends of a program, beside a clock that stops it and reports how far it is.
 
-use crate::files::InputPrefix;
+use crate::files::TextBeforeStdin;
 use ga_check_report::{
-    CheckRequest, ConditionFault, ReportFormat, Verdict, check_ends, check_never, check_program,
+    CheckRequest, ConditionFault, ReportFormat, Verdict, check_ends, check_expectations_or_ends,
+    check_never_conditions,
 };
 use ga_state_search::SearchControl;
 use std::sync::atomic::{AtomicBool, Ordering};
@@ -47,7 +48,7 @@ pub fn find_verdict<T: Threads + Sync>(
     rt: &HostRuntime,
     work: CheckOptions<'_>,
     name: &str,
-    front: &InputPrefix,
+    front: &TextBeforeStdin,
 ) -> Result<Verdict, ConditionFault> {
     let watch = SearchControl::new();
     if !work.progress && work.seconds == 0 {
@@ -71,7 +72,7 @@ fn search(
     rt: &HostRuntime,
     work: CheckOptions<'_>,
     name: &str,
-    front: &InputPrefix,
+    front: &TextBeforeStdin,
     watch: &SearchControl,
 ) -> Result<Verdict, ConditionFault> {
     let mut reader = front.reader(rt);
@@ -86,7 +87,7 @@ fn search(
     };
     let (limit, settles, asked) = (SESSION_LIMIT, work.settled, work.asked);
     match work.never {
-        Some(conditions) => check_never(
+        Some(conditions) => check_never_conditions(
             alloc,
             input,
             output,
@@ -104,7 +105,7 @@ fn search(
                     alloc, input, output, told, request, limit, settles, asked, watch,
                 ))
             } else {
-                Ok(check_program(
+                Ok(check_expectations_or_ends(
                     alloc, input, output, told, request, limit, settles, asked, watch,
                 ))
             }

@@ -1,6 +1,6 @@
 //! The files that the command line names.
 
-use ga_explorer::{complete_end_line, lacks_end_line};
+use ga_explorer::{complete_end_line, is_image_lacking_end_line};
 use std::fs::File;
 use std::io;
 use std::io::{Chain, ErrorKind, Read, Stdin, Take};
@@ -19,12 +19,12 @@ pub fn read_file(rt: &HostRuntime, path: &str) -> io::Result<Vec<u8>> {
 
 /// The text before standard input, and how many bytes may be read after it.
 #[derive(Drop)]
-pub struct InputPrefix {
+pub struct TextBeforeStdin {
     text: Vec<u8>,
     behind: u64,
 }
 
-impl InputPrefix {
+impl TextBeforeStdin {
     /// What is read: the text, and then standard input.
     pub fn reader(&self, rt: &HostRuntime) -> Chain<&[u8], Take<Stdin>> {
         self.text.as_slice().chain(rt.stdin().take(self.behind))
@@ -36,19 +36,19 @@ impl InputPrefix {
 ///
 /// # Errors
 /// The exit status, as the file can't be read, which was reported.
-pub fn read_input_prefix(rt: &HostRuntime, file: Option<&str>) -> Result<InputPrefix, u8> {
+pub fn read_text_before_stdin(rt: &HostRuntime, file: Option<&str>) -> Result<TextBeforeStdin, u8> {
     let Some(name) = file else {
-        return Ok(InputPrefix {
+        return Ok(TextBeforeStdin {
             text: Vec::new(rt.alloc()),
             behind: u64::MAX,
         });
     };
     let mut text = text_of(rt, name)?;
-    if lacks_end_line(text.as_slice()) {
-        return Ok(InputPrefix { text, behind: 0 });
+    if is_image_lacking_end_line(text.as_slice()) {
+        return Ok(TextBeforeStdin { text, behind: 0 });
     }
     match complete_end_line(&mut text) {
-        Ok(()) => Ok(InputPrefix {
+        Ok(()) => Ok(TextBeforeStdin {
             text,
             behind: u64::MAX,
         }),

@@ -16,11 +16,13 @@ ghost use Rattle.ga_console.specs.Settings.{AreSettingsInRange};
 use adapter::{report_adapter_out_of_memory, serve_editor};
 use arriving::spawn_reader;
 use checking::{CheckOptions, choose_report_format, find_verdict};
-use files::{read_chip_file, read_input_prefix};
-use ga_asm_text::{assemble_in_format, disassemble, list_source};
+use files::{read_chip_file, read_text_before_stdin};
+use ga_asm_text::{assemble_source_in_format, disassemble_image, list_source};
 use ga_check_report::{ConditionFault, Verdict};
-use ga_console::{CommandLineFault, Settings, Status, parse_command_line, race_report, session};
-use ga_explorer::{QueryUsage, explore};
+use ga_console::{
+    CommandLineFault, Settings, Status, parse_command_line, session, write_worker_race_report,
+};
+use ga_explorer::{QueryUsage, serve_explorer_session};
 use ga_explorer_json::explore_json;
 use ga_picture::{PictureView, draw_session};
 use std::env;
@@ -40,7 +42,7 @@ fn main(rt: HostRuntime) -> ExitCode {
         ) => {
             let mut reader = rt.stdin();
             let mut writer = rt.stdout();
-            let status = race_report(
+            let status = write_worker_race_report(
                 &rt,
                 rt.alloc(),
                 &mut reader,
@@ -177,7 +179,7 @@ enum Work {
 /// Reads a file, if one is named, followed by standard input, and does the work; on the chip of another file, if one is named.
 fn served(rt: &HostRuntime, work: Work, chip: &Option<String>, file: &Option<String>) -> ExitCode {
     let named = file.as_ref().map(|name| name.as_str());
-    let front = match read_input_prefix(rt, named) {
+    let front = match read_text_before_stdin(rt, named) {
         Ok(front) => front,
         Err(status) => return ExitCode::from(status),
     };
@@ -190,7 +192,7 @@ fn served(rt: &HostRuntime, work: Work, chip: &Option<String>, file: &Option<Str
     let alloc = rt.alloc();
     let (input, output, told) = (&mut reader, &mut writer, &mut errors);
     let status = match work {
-        Work::Explore { limit, strict } => explore(
+        Work::Explore { limit, strict } => serve_explorer_session(
             alloc,
             input,
             output,
@@ -211,7 +213,7 @@ fn served(rt: &HostRuntime, work: Work, chip: &Option<String>, file: &Option<Str
             strict,
         ),
         Work::Assemble { json } => {
-            assemble_in_format(
+            assemble_source_in_format(
                 alloc,
                 input,
                 output,
@@ -220,7 +222,7 @@ fn served(rt: &HostRuntime, work: Work, chip: &Option<String>, file: &Option<Str
             )
         }
         Work::List => list_source(alloc, input, output, told),
-        Work::Disassemble => disassemble(alloc, input, output, told),
+        Work::Disassemble => disassemble_image(alloc, input, output, told),
         Work::Draw { view, limit } => {
             draw_session(alloc, input, output, told, view, chip, limit)
         }
@@ -301,7 +303,7 @@ fn check_file<T: Threads + Sync>(
     work: CheckOptions<'_>,
     file: Option<&str>,
 ) -> u8 {
-    let front = match read_input_prefix(rt, file) {
+    let front = match read_text_before_stdin(rt, file) {
         Ok(front) => front,
         Err(status) => return status,
     };
@@ -324,7 +326,7 @@ fn refuse_conditions(rt: &HostRuntime, given: &str, fault: ConditionFault) -> u8
         ConditionFault::CountsWords => {
             "a state counts no words; give the word, as pass NNN MMM OP N does"
         }
-        ConditionFault::TooMany => "at most 8 conditions",
+        ConditionFault::TooManyConditions => "at most 8 conditions",
     };
     let _ = eprint!(rt;
         "ga144: command line refused\nerror: invalid value '{given}' for '--never <COND>': {why}\n\n\
@@ -337,10 +339,10 @@ fn refuse_conditions(rt: &HostRuntime, given: &str, fault: ConditionFault) -> u8
 fn status_of_verdict(rt: &HostRuntime, verdict: Verdict) -> u8 {
     match verdict {
         Verdict::Clean => 0,
-        Verdict::Saved => 0,
+        Verdict::SessionWritten => 0,
         Verdict::Unclean => 5,
         Verdict::Unknown => 6,
-        Verdict::Ended(status) => status_of(rt, status),
+        Verdict::FailedWithStatus(status) => status_of(rt, status),
     }
 }
 

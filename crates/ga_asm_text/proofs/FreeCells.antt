@@ -8,9 +8,9 @@ use Rattle.ga_node.specs.Record.{NodeState}
 use Rattle.ga_parser.specs.declared.item.Operand.TheVariants.{Number}
 use Rattle.ga_parser.specs.declared.item.AssemblyItem.TheVariants.{Cell}
 use Rattle.ga_parser.specs.declared.item.AssemblyRequest.{AssemblyRequest}
-use Rattle.ga_parser.specs.declared.item.AssemblyRequest.TheVariants.{Put}
+use Rattle.ga_parser.specs.declared.item.AssemblyRequest.TheVariants.{PlaceItem}
 use Rattle.ga_source.specs.Made.{requested_cells, IsMemoryAddress, cell_at_index, AreDistinctCells}
-use Rattle.ga_asm_text.specs.inner.{next_of, next_behind, IsFit}
+use Rattle.ga_asm_text.specs.inner.{address_after_cell, address_after_cells, HasMemoriesAndRegistersInRange}
 use Rattle.ga_asm_text.proofs.PlainWords.{address_requests, cell_requests, cells_requests, node_requests, IsCellAddress, IsWithin, first_within, rest_within}
 use Rattle.ga_asm_text.proofs.PlainCells.{counts_up}
 
@@ -64,47 +64,47 @@ gone address next rest = elim (cases_Bool (address == next)) [
   | inr differs ↦ rw differs refl
 ]
 
-put : (address word : ℕ) (rest : List AssemblyRequest) → requested_cells address (Put (Cell (Number word)) ∷ rest) ≡ (address, word) ∷ requested_cells (advanced_address address) rest
+put : (address word : ℕ) (rest : List AssemblyRequest) → requested_cells address (PlaceItem (Cell (Number word)) ∷ rest) ≡ (address, word) ∷ requested_cells (advanced_address address) rest
 unfolding requested_cells
 put address word rest = refl
 
 one_cell : (word address next : ℕ) (rest : List AssemblyRequest) → IsCellAddress address → (word == 0) ≡ false → requested_cells next (cell_requests word address next ++ rest) ≡ (address, word) ∷ requested_cells (address + 1) rest
 one_cell word address next rest is some = rw some
-    (ap (requested_cells next) (append_assoc (address_requests address next) (Put (Cell (Number word)) ∷ []) rest)
-    ∙ (gone address next (Put (Cell (Number word)) ∷ rest)
+    (ap (requested_cells next) (append_assoc (address_requests address next) (PlaceItem (Cell (Number word)) ∷ []) rest)
+    ∙ (gone address next (PlaceItem (Cell (Number word)) ∷ rest)
     ∙ (put address word rest ∙ ap (λ (at : ℕ). (address, word) ∷ requested_cells at rest) (counts_up address is))))
 
 -- one cell, unless it is 0
-one_up : (least word address next : ℕ) (rest : List AssemblyRequest) → least ≤ address → IsCellAddress address → Ascend (address + 1) (requested_cells (next_of word address next) rest) → Ascend least (requested_cells next (cell_requests word address next ++ rest))
+one_up : (least word address next : ℕ) (rest : List AssemblyRequest) → least ≤ address → IsCellAddress address → Ascend (address + 1) (requested_cells (address_after_cell word address next) rest) → Ascend least (requested_cells next (cell_requests word address next ++ rest))
 unfolding Ascend
 one_up least word address next rest above is up = elim (cases_Bool (word == 0)) [
   | inl none ↦ rw none (lower least (address + 1) (requested_cells next rest) (omega arith) (subst (λ (at : ℕ). Ascend (address + 1) (requested_cells at rest)) (ap (λ (b : Bool). cond b next (address + 1)) none) up))
   | inr some ↦ subst (Ascend least) (sym (one_cell word address next rest is some)) (above, is, subst (λ (at : ℕ). Ascend (address + 1) (requested_cells at rest)) (ap (λ (b : Bool). cond b next (address + 1)) some) up)
 ]
 
-cells_up : (least address next : ℕ) (words : List ℕ) (rest : List AssemblyRequest) → least ≤ address → IsWithin address (length words) → Ascend (address + length words) (requested_cells (next_behind address next words) rest) → Ascend least (requested_cells next (cells_requests address next words ++ rest))
-unfolding cells_requests next_behind
+cells_up : (least address next : ℕ) (words : List ℕ) (rest : List AssemblyRequest) → least ≤ address → IsWithin address (length words) → Ascend (address + length words) (requested_cells (address_after_cells address next words) rest) → Ascend least (requested_cells next (cells_requests address next words ++ rest))
+unfolding cells_requests address_after_cells
 cells_up least address next [] rest above within up = lower least (address + 0) (requested_cells next rest) (omega arith) up
 cells_up least address next (word ∷ words) rest above within up =
-    let behind = next_of word address next in
+    let behind = address_after_cell word address next in
     let after = cells_requests (address + 1) behind words in
     let end : address + suc (length words) ≡ address + 1 + length words = omega arith in
     subst (λ (all : List AssemblyRequest). Ascend least (requested_cells next all)) (sym (append_assoc (cell_requests word address next) after rest))
     (one_up least word address next (after ++ rest) above (first_within address (length words) within)
     (cells_up (address + 1) (address + 1) behind words rest (omega arith) (rest_within address (length words) within)
-    (subst (λ (least : ℕ). Ascend least (requested_cells (next_behind (address + 1) behind words) rest)) end up)))
+    (subst (λ (least : ℕ). Ascend least (requested_cells (address_after_cells (address + 1) behind words) rest)) end up)))
 
 none_up : (least at : ℕ) → Ascend least (requested_cells at [])
 unfolding Ascend requested_cells
 none_up least at = tt
 
-pub node_free : (node : NodeState) → IsFit node → AreDistinctCells (requested_cells 0 (node_requests node))
+pub node_free : (node : NodeState) → HasMemoriesAndRegistersInRange node → AreDistinctCells (requested_cells 0 (node_requests node))
 node_free node fit =
     let ram = fit.memories.ram in
     let rom = fit.memories.rom in
-    let behind = next_behind 0 0 node.ram in
+    let behind = address_after_cells 0 0 node.ram in
     let rom_cells = cells_requests 0x80 behind node.rom in
-    let last = none_up (0x80 + length node.rom) (next_behind 0x80 behind node.rom) in
+    let last = none_up (0x80 + length node.rom) (address_after_cells 0x80 behind node.rom) in
     let second : Ascend (0 + length node.ram) (requested_cells behind rom_cells) =
     subst (λ (all : List AssemblyRequest). Ascend (0 + length node.ram) (requested_cells behind all)) (append-nil rom_cells)
     (cells_up (0 + length node.ram) 0x80 behind node.rom [] (omega (arith, ram.size)) (inr (omega arith, omega (arith, rom.size))) last) in

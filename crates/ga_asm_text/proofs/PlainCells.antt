@@ -12,10 +12,10 @@ use Rattle.ga_node.specs.Record.{NodeState}
 use Rattle.ga_parser.specs.declared.item.Operand.TheVariants.{Number}
 use Rattle.ga_parser.specs.declared.item.AssemblyItem.TheVariants.{Cell}
 use Rattle.ga_parser.specs.declared.item.AssemblyRequest.{AssemblyRequest}
-use Rattle.ga_parser.specs.declared.item.AssemblyRequest.TheVariants.{Put}
+use Rattle.ga_parser.specs.declared.item.AssemblyRequest.TheVariants.{PlaceItem}
 use Rattle.ga_source.specs.Programs.{is_item_request}
 use Rattle.ga_source.specs.Made.{node_with_cell, node_with_requests}
-use Rattle.ga_asm_text.specs.inner.{next_of, next_behind, holds_word, IsFit}
+use Rattle.ga_asm_text.specs.inner.{address_after_cell, address_after_cells, is_nonzero_cell, HasMemoriesAndRegistersInRange}
 use Rattle.ga_asm_text.proofs.PlainWords.{address_requests, cell_requests, cells_requests, node_requests, IsCellAddress, IsWithin, first_within, rest_within}
 
 -- ---- addresses
@@ -83,27 +83,27 @@ gone node address next rest = elim (cases_Bool (address == next)) [
   | inr differs ↦ rw differs refl
 ]
 
-put : (node : NodeState) (address word : ℕ) (rest : List AssemblyRequest) → node_with_requests node address (Put (Cell (Number word)) ∷ rest) ≡ node_with_requests (node_with_cell node (address_target address) word) (advanced_address address) rest
+put : (node : NodeState) (address word : ℕ) (rest : List AssemblyRequest) → node_with_requests node address (PlaceItem (Cell (Number word)) ∷ rest) ≡ node_with_requests (node_with_cell node (address_target address) word) (advanced_address address) rest
 unfolding node_with_requests
 put node address word rest = refl
 
 one_written : (node : NodeState) (word address next : ℕ) (rest : List AssemblyRequest) → IsCellAddress address
-    → node_with_requests node next (cell_requests word address next ++ rest) ≡ node_with_requests (if word == 0 then node else node_with_cell node (address_target address) word) (next_of word address next) rest
+    → node_with_requests node next (cell_requests word address next ++ rest) ≡ node_with_requests (if word == 0 then node else node_with_cell node (address_target address) word) (address_after_cell word address next) rest
 one_written node word address next rest is = elim (cases_Bool (word == 0)) [
   | inl none ↦ rw none refl
   | inr some ↦ rw some
-      (ap (node_with_requests node next) (append_assoc (address_requests address next) (Put (Cell (Number word)) ∷ []) rest)
-      ∙ (gone node address next (Put (Cell (Number word)) ∷ rest)
+      (ap (node_with_requests node next) (append_assoc (address_requests address next) (PlaceItem (Cell (Number word)) ∷ []) rest)
+      ∙ (gone node address next (PlaceItem (Cell (Number word)) ∷ rest)
       ∙ (put node address word rest
       ∙ ap (λ (at : ℕ). node_with_requests (node_with_cell node (address_target address) word) at rest) (counts_up address is))))
 ]
 
 cells_written : (node : NodeState) (address next : ℕ) (words : List ℕ) (rest : List AssemblyRequest) → IsWithin address (length words)
-    → node_with_requests node next (cells_requests address next words ++ rest) ≡ node_with_requests (with_cells node address words) (next_behind address next words) rest
-unfolding cells_requests with_cells next_behind
+    → node_with_requests node next (cells_requests address next words ++ rest) ≡ node_with_requests (with_cells node address words) (address_after_cells address next words) rest
+unfolding cells_requests with_cells address_after_cells
 cells_written node address next [] rest within = refl
 cells_written node address next (word ∷ words) rest within =
-    let behind = next_of word address next in
+    let behind = address_after_cell word address next in
     let after = cells_requests (address + 1) behind words in
     ap (node_with_requests node next) (append_assoc (cell_requests word address next) after rest)
     ∙ (one_written node word address next (after ++ rest) (first_within address (length words) within)
@@ -138,12 +138,12 @@ rom_cells node cell (word ∷ words) within =
     ∙ rom_cells (record node { rom = if word == 0 then node.rom else set node.rom cell word }) (cell + 1) words (omega arith))
 
 -- a node without cells gets just those of this one
-pub memories_written : (empty node : NodeState) → IsFit node → empty.ram ≡ replicate 64 0 → empty.rom ≡ replicate 64 0 → node_with_requests empty 0 (node_requests node) ≡ record empty { ram = node.ram; rom = node.rom }
+pub memories_written : (empty node : NodeState) → HasMemoriesAndRegistersInRange node → empty.ram ≡ replicate 64 0 → empty.rom ≡ replicate 64 0 → node_with_requests empty 0 (node_requests node) ≡ record empty { ram = node.ram; rom = node.rom }
 unfolding node_with_requests
 memories_written empty node fit no_ram no_rom =
     let ram = fit.memories.ram in
     let rom = fit.memories.rom in
-    let behind = next_behind 0 0 node.ram in
+    let behind = address_after_cells 0 0 node.ram in
     let half = record empty { ram = node.ram } in
     let ram_made : with_cells empty 0 node.ram ≡ half =
     ram_cells empty 0 node.ram (omega (arith, ram.size)) ∙ ap (λ (l : List ℕ). record empty { ram = l }) (ap (λ (l : List ℕ). filled l 0 node.ram) no_ram ∙ memory_filled node.ram ram.size) in
@@ -165,18 +165,18 @@ one_item word address next = elim (cases_Bool (word == 0)) [
   ]
 ]
 
-cell_items : (address next : ℕ) (words : List ℕ) → list_any is_item_request (cells_requests address next words) ≡ holds_word words
-unfolding cells_requests holds_word
+cell_items : (address next : ℕ) (words : List ℕ) → list_any is_item_request (cells_requests address next words) ≡ is_nonzero_cell words
+unfolding cells_requests is_nonzero_cell
 cell_items address next [] = refl
 cell_items address next (word ∷ words) =
-    let behind = next_of word address next in
+    let behind = address_after_cell word address next in
     list_any-append is_item_request (cell_requests word address next) (cells_requests (address + 1) behind words)
     ∙ (ap (λ (b : Bool). b || list_any is_item_request (cells_requests (address + 1) behind words)) (one_item word address next)
     ∙ ap (λ (b : Bool). not (word == 0) || b) (cell_items (address + 1) behind words))
 
-pub node_items : (node : NodeState) → list_any is_item_request (node_requests node) ≡ (holds_word node.ram || holds_word node.rom)
+pub node_items : (node : NodeState) → list_any is_item_request (node_requests node) ≡ (is_nonzero_cell node.ram || is_nonzero_cell node.rom)
 node_items node =
-    let behind = next_behind 0 0 node.ram in
+    let behind = address_after_cells 0 0 node.ram in
     list_any-append is_item_request (cells_requests 0 0 node.ram) (cells_requests 0x80 behind node.rom)
     ∙ (ap (λ (b : Bool). b || list_any is_item_request (cells_requests 0x80 behind node.rom)) (cell_items 0 0 node.ram)
-    ∙ ap (λ (b : Bool). holds_word node.ram || b) (cell_items 0x80 behind node.rom))
+    ∙ ap (λ (b : Bool). is_nonzero_cell node.ram || b) (cell_items 0x80 behind node.rom))

@@ -10,37 +10,37 @@ use Rattle.ga_parser.specs.declared.item.Operand.{Operand}
 use Rattle.ga_parser.specs.declared.item.Operand.TheVariants.{Number}
 use Rattle.ga_parser.specs.declared.item.AssemblyItem.TheVariants.{Cell}
 use Rattle.ga_parser.specs.declared.item.AssemblyRequest.{AssemblyRequest}
-use Rattle.ga_parser.specs.declared.item.AssemblyRequest.TheVariants.{Put, Go}
-use Rattle.ga_parser.specs.Plain.{Plain, no_plain_requests, with_plain_request, some_value_if, is_cell_address, may_set_register, plain_requests_from, plain_requests_of}
-use Rattle.ga_asm_text.specs.inner.{Word, number_word, register_words, address_words, cell_words, next_of, cells_words, next_behind, usual_p, holds_words, node_words, IsCell, IsFit}
+use Rattle.ga_parser.specs.declared.item.AssemblyRequest.TheVariants.{PlaceItem, GoToAddress}
+use Rattle.ga_parser.specs.Plain.{PlainRequests, no_plain_requests, plain_requests_with_added, some_value_if, is_cell_address, may_set_register, plain_requests_from, plain_requests_of_words}
+use Rattle.ga_asm_text.specs.inner.{SourceWordText, hex_number_source_word, register_source_words, address_source_words, cell_source_words, address_after_cell, cells_words, address_after_cells, default_register_p, has_nonzero_memory, node_source_words, IsNumberOf18Bits, HasMemoriesAndRegistersInRange}
 use Rattle.ga_asm_text.proofs.HexLemmas.{number_read}
 
 -- ---- cells
 
 -- what the words of a cell ask for
 abbrev pub address_requests : ℕ → ℕ → List AssemblyRequest
-address_requests address next = if address == next then [] else Go address ∷ []
+address_requests address next = if address == next then [] else GoToAddress address ∷ []
 
 abbrev pub cell_requests : ℕ → ℕ → ℕ → List AssemblyRequest
-cell_requests word address next = if word == 0 then [] else address_requests address next ++ Put (Cell (Number word)) ∷ []
+cell_requests word address next = if word == 0 then [] else address_requests address next ++ PlaceItem (Cell (Number word)) ∷ []
 
 unfoldable pub cells_requests : ℕ → ℕ → List ℕ → List AssemblyRequest
 cells_requests address next [] = []
-cells_requests address next (word ∷ words) = cell_requests word address next ++ cells_requests (address + 1) (next_of word address next) words
+cells_requests address next (word ∷ words) = cell_requests word address next ++ cells_requests (address + 1) (address_after_cell word address next) words
 
-abbrev with_all : Plain → List AssemblyRequest → Plain
+abbrev with_all : PlainRequests → List AssemblyRequest → PlainRequests
 with_all plain requests = record plain { requests = plain.requests ++ requests }
 
-none_more : (plain : Plain) → with_all plain [] ≡ plain
+none_more : (plain : PlainRequests) → with_all plain [] ≡ plain
 none_more plain = ap (λ (l : List AssemblyRequest). record plain { requests = l }) (append-nil plain.requests)
 
-all_more : (plain : Plain) (some more : List AssemblyRequest) → with_all (with_all plain some) more ≡ with_all plain (some ++ more)
+all_more : (plain : PlainRequests) (some more : List AssemblyRequest) → with_all (with_all plain some) more ≡ with_all plain (some ++ more)
 all_more plain some more = ap (λ (l : List AssemblyRequest). record plain { requests = l }) (append_assoc plain.requests some more)
 
-one_number : (plain : Plain) (word : ℕ) (rest : List Word) → word < 262144 → plain_requests_from plain (number_word 6 word ∷ codes "," ∷ rest) ≡ plain_requests_from (with_all plain (Put (Cell (Number word)) ∷ [])) rest
+one_number : (plain : PlainRequests) (word : ℕ) (rest : List SourceWordText) → word < 262144 → plain_requests_from plain (hex_number_source_word 6 word ∷ codes "," ∷ rest) ≡ plain_requests_from (with_all plain (PlaceItem (Cell (Number word)) ∷ [])) rest
 unfolding plain_requests_from
 one_number plain word rest small =
-    rw (number_read 5 word (λ n. Some (with_plain_request plain (Put (Cell (Number n))))) (omega arith) small) refl
+    rw (number_read 5 word (λ n. Some (plain_requests_with_added plain (PlaceItem (Cell (Number n))))) (omega arith) small) refl
 
 abbrev pub IsCellAddress : ℕ → Type 0
 IsCellAddress address = (address < 64) ⊎ ((128 ≤ address) × (address < 192))
@@ -54,29 +54,29 @@ cell_address address (inr rom) =
     or_true true = refl
     or_true false = refl
 
-one_address : (plain : Plain) (address : ℕ) (rest : List Word) → IsCellAddress address → plain_requests_from plain (codes "org" ∷ number_word 2 address ∷ rest) ≡ plain_requests_from (with_all plain (Go address ∷ [])) rest
+one_address : (plain : PlainRequests) (address : ℕ) (rest : List SourceWordText) → IsCellAddress address → plain_requests_from plain (codes "org" ∷ hex_number_source_word 2 address ∷ rest) ≡ plain_requests_from (with_all plain (GoToAddress address ∷ [])) rest
 unfolding plain_requests_from
 one_address plain address rest is =
-    rw (number_read 1 address (λ n. some_value_if (is_cell_address n) (with_plain_request plain (Go n))) (omega (arith, below address is)) (omega (arith, below address is)), cell_address address is) refl
+    rw (number_read 1 address (λ n. some_value_if (is_cell_address n) (plain_requests_with_added plain (GoToAddress n))) (omega (arith, below address is)) (omega (arith, below address is)), cell_address address is) refl
   where
     below : (a : ℕ) → IsCellAddress a → a < 192
     below a (inl ram) = omega arith
     below a (inr rom) = rom.1
 
-org_requests : (plain : Plain) (address next : ℕ) (rest : List Word) → IsCellAddress address → plain_requests_from plain (address_words address next ++ rest) ≡ plain_requests_from (with_all plain (address_requests address next)) rest
+org_requests : (plain : PlainRequests) (address next : ℕ) (rest : List SourceWordText) → IsCellAddress address → plain_requests_from plain (address_source_words address next ++ rest) ≡ plain_requests_from (with_all plain (address_requests address next)) rest
 org_requests plain address next rest is = elim (cases_Bool (address == next)) [
-  | inl same ↦ rw same (ap (λ (p : Plain). plain_requests_from p rest) (sym (none_more plain)))
+  | inl same ↦ rw same (ap (λ (p : PlainRequests). plain_requests_from p rest) (sym (none_more plain)))
   | inr differs ↦ rw differs (one_address plain address rest is)
 ]
 
-cell_asks : (plain : Plain) (word address next : ℕ) (rest : List Word) → word < 262144 → IsCellAddress address → plain_requests_from plain (cell_words word address next ++ rest) ≡ plain_requests_from (with_all plain (cell_requests word address next)) rest
+cell_asks : (plain : PlainRequests) (word address next : ℕ) (rest : List SourceWordText) → word < 262144 → IsCellAddress address → plain_requests_from plain (cell_source_words word address next ++ rest) ≡ plain_requests_from (with_all plain (cell_requests word address next)) rest
 cell_asks plain word address next rest small is = elim (cases_Bool (word == 0)) [
-  | inl none ↦ rw none (ap (λ (p : Plain). plain_requests_from p rest) (sym (none_more plain)))
+  | inl none ↦ rw none (ap (λ (p : PlainRequests). plain_requests_from p rest) (sym (none_more plain)))
   | inr some ↦ rw some
-      (ap (plain_requests_from plain) (append_assoc (address_words address next) (number_word 6 word ∷ codes "," ∷ []) rest)
-      ∙ (org_requests plain address next (number_word 6 word ∷ codes "," ∷ rest) is
+      (ap (plain_requests_from plain) (append_assoc (address_source_words address next) (hex_number_source_word 6 word ∷ codes "," ∷ []) rest)
+      ∙ (org_requests plain address next (hex_number_source_word 6 word ∷ codes "," ∷ rest) is
       ∙ (one_number (with_all plain (address_requests address next)) word rest small
-      ∙ ap (λ (p : Plain). plain_requests_from p rest) (all_more plain (address_requests address next) (Put (Cell (Number word)) ∷ [])))))
+      ∙ ap (λ (p : PlainRequests). plain_requests_from p rest) (all_more plain (address_requests address next) (PlaceItem (Cell (Number word)) ∷ [])))))
 ]
 
 -- `count` cells from an address on are within a memory
@@ -91,17 +91,17 @@ pub rest_within : (address count : ℕ) → IsWithin address (suc count) → IsW
 rest_within address count (inl ram) = inl (omega arith)
 rest_within address count (inr rom) = inr (omega (arith, rom.0), omega (arith, rom.1))
 
-cells_ask : (plain : Plain) (address next : ℕ) (cells : List ℕ) (rest : List Word) → All IsCell cells → IsWithin address (length cells) → plain_requests_from plain (cells_words address next cells ++ rest) ≡ plain_requests_from (with_all plain (cells_requests address next cells)) rest
+cells_ask : (plain : PlainRequests) (address next : ℕ) (cells : List ℕ) (rest : List SourceWordText) → All IsNumberOf18Bits cells → IsWithin address (length cells) → plain_requests_from plain (cells_words address next cells ++ rest) ≡ plain_requests_from (with_all plain (cells_requests address next cells)) rest
 unfolding cells_words cells_requests
-cells_ask plain address next [] rest small within = ap (λ (p : Plain). plain_requests_from p rest) (sym (none_more plain))
+cells_ask plain address next [] rest small within = ap (λ (p : PlainRequests). plain_requests_from p rest) (sym (none_more plain))
 cells_ask plain address next (word ∷ words) rest small within =
-    let behind = next_of word address next in
+    let behind = address_after_cell word address next in
     let asked = cell_requests word address next in
     let after = cells_words (address + 1) behind words in
-    ap (plain_requests_from plain) (append_assoc (cell_words word address next) after rest)
-    ∙ (cell_asks plain word address next (after ++ rest) (All-head IsCell word words small) (first_within address (length words) within)
-    ∙ (cells_ask (with_all plain asked) (address + 1) behind words rest (All-tail IsCell word words small) (rest_within address (length words) within)
-    ∙ ap (λ (p : Plain). plain_requests_from p rest) (all_more plain asked (cells_requests (address + 1) behind words))))
+    ap (plain_requests_from plain) (append_assoc (cell_source_words word address next) after rest)
+    ∙ (cell_asks plain word address next (after ++ rest) (All-head IsNumberOf18Bits word words small) (first_within address (length words) within)
+    ∙ (cells_ask (with_all plain asked) (address + 1) behind words rest (All-tail IsNumberOf18Bits word words small) (rest_within address (length words) within)
+    ∙ ap (λ (p : PlainRequests). plain_requests_from p rest) (all_more plain asked (cells_requests (address + 1) behind words))))
 
 -- ---- registers
 
@@ -109,24 +109,24 @@ cells_ask plain address next (word ∷ words) rest small within =
 abbrev pub given : ℕ → ℕ → Option Operand
 given value usual = if value == usual then None else Some (Number value)
 
-abbrev registers_of : Option Operand → Option Operand → Option Operand → Plain
+abbrev registers_of : Option Operand → Option Operand → Option Operand → PlainRequests
 registers_of p a b = record { requests = []; p = p; a = a; b = b }
 
-p_asks : (value usual : ℕ) (rest : List Word) → value < 0x400 → plain_requests_from no_plain_requests (register_words (codes "/p") value usual ++ rest) ≡ plain_requests_from (registers_of (given value usual) None None) rest
+p_asks : (value usual : ℕ) (rest : List SourceWordText) → value < 0x400 → plain_requests_from no_plain_requests (register_source_words (codes "/p") value usual ++ rest) ≡ plain_requests_from (registers_of (given value usual) None None) rest
 unfolding plain_requests_from
 p_asks value usual rest small = elim (cases_Bool (value == usual)) [
   | inl same ↦ rw same refl
   | inr differs ↦ rw (differs, number_read 4 value (λ n. some_value_if (may_set_register None n 0x400) (registers_of (Some (Number n)) None None)) (omega arith) (omega arith), lt-ltb value 0x400 small) refl
 ]
 
-a_asks : (p : Option Operand) (value usual : ℕ) (rest : List Word) → value < 0x40000 → plain_requests_from (registers_of p None None) (register_words (codes "/a") value usual ++ rest) ≡ plain_requests_from (registers_of p (given value usual) None) rest
+a_asks : (p : Option Operand) (value usual : ℕ) (rest : List SourceWordText) → value < 0x40000 → plain_requests_from (registers_of p None None) (register_source_words (codes "/a") value usual ++ rest) ≡ plain_requests_from (registers_of p (given value usual) None) rest
 unfolding plain_requests_from
 a_asks p value usual rest small = elim (cases_Bool (value == usual)) [
   | inl same ↦ rw same refl
   | inr differs ↦ rw (differs, number_read 4 value (λ n. some_value_if (may_set_register None n 0x40000) (registers_of p (Some (Number n)) None)) (omega arith) small, lt-ltb value 0x40000 small) refl
 ]
 
-b_asks : (p a : Option Operand) (value usual : ℕ) (rest : List Word) → value < 0x200 → plain_requests_from (registers_of p a None) (register_words (codes "/b") value usual ++ rest) ≡ plain_requests_from (registers_of p a (given value usual)) rest
+b_asks : (p a : Option Operand) (value usual : ℕ) (rest : List SourceWordText) → value < 0x200 → plain_requests_from (registers_of p a None) (register_source_words (codes "/b") value usual ++ rest) ≡ plain_requests_from (registers_of p a (given value usual)) rest
 unfolding plain_requests_from
 b_asks p a value usual rest small = elim (cases_Bool (value == usual)) [
   | inl same ↦ rw same refl
@@ -136,24 +136,24 @@ b_asks p a value usual rest small = elim (cases_Bool (value == usual)) [
 -- ---- a node
 
 abbrev pub node_requests : NodeState → List AssemblyRequest
-node_requests node = cells_requests 0 0 node.ram ++ cells_requests 0x80 (next_behind 0 0 node.ram) node.rom
+node_requests node = cells_requests 0 0 node.ram ++ cells_requests 0x80 (address_after_cells 0 0 node.ram) node.rom
 
 -- what the words of a node ask for
-abbrev pub plain_by : ℕ → NodeState → Plain
+abbrev pub plain_by : ℕ → NodeState → PlainRequests
 plain_by n node = record {
   requests = node_requests node;
-  p = given node.p (usual_p n (holds_words node));
+  p = given node.p (default_register_p n (has_nonzero_memory node));
   a = given node.a 0;
   b = given node.b 0x15d;
 }
 
-pub nothing_asks : (plain : Plain) → plain_requests_from plain [] ≡ Some plain
+pub nothing_asks : (plain : PlainRequests) → plain_requests_from plain [] ≡ Some plain
 unfolding plain_requests_from
 nothing_asks plain = refl
 
-memories_ask : (plain : Plain) (node : NodeState) → IsFit node → plain_requests_from plain (cells_words 0 0 node.ram ++ cells_words 0x80 (next_behind 0 0 node.ram) node.rom) ≡ Some (with_all plain (node_requests node))
+memories_ask : (plain : PlainRequests) (node : NodeState) → HasMemoriesAndRegistersInRange node → plain_requests_from plain (cells_words 0 0 node.ram ++ cells_words 0x80 (address_after_cells 0 0 node.ram) node.rom) ≡ Some (with_all plain (node_requests node))
 memories_ask plain node fit =
-    let behind = next_behind 0 0 node.ram in
+    let behind = address_after_cells 0 0 node.ram in
     let more = with_all plain (cells_requests 0 0 node.ram) in
     let ram = fit.memories.ram in
     let rom = fit.memories.rom in
@@ -164,15 +164,15 @@ memories_ask plain node fit =
     ∙ (nothing_asks (with_all more (cells_requests 0x80 behind node.rom))
     ∙ ap Some (all_more plain (cells_requests 0 0 node.ram) (cells_requests 0x80 behind node.rom)))))
 
-pub node_asks : (n : ℕ) (node : NodeState) → IsFit node → plain_requests_of (node_words n node) ≡ Some (plain_by n node)
+pub node_asks : (n : ℕ) (node : NodeState) → HasMemoriesAndRegistersInRange node → plain_requests_of_words (node_source_words n node) ≡ Some (plain_by n node)
 node_asks n node fit =
-    let usual = usual_p n (holds_words node) in
-    let p = register_words (codes "/p") node.p usual in
-    let a = register_words (codes "/a") node.a 0 in
-    let b = register_words (codes "/b") node.b 0x15d in
-    let cells = cells_words 0 0 node.ram ++ cells_words 0x80 (next_behind 0 0 node.ram) node.rom in
+    let usual = default_register_p n (has_nonzero_memory node) in
+    let p = register_source_words (codes "/p") node.p usual in
+    let a = register_source_words (codes "/a") node.a 0 in
+    let b = register_source_words (codes "/b") node.b 0x15d in
+    let cells = cells_words 0 0 node.ram ++ cells_words 0x80 (address_after_cells 0 0 node.ram) node.rom in
     let has = fit.registers in
-    ap plain_requests_of (append_assoc (p ++ a) b cells ∙ append_assoc p a (b ++ cells))
+    ap plain_requests_of_words (append_assoc (p ++ a) b cells ∙ append_assoc p a (b ++ cells))
     ∙ (p_asks node.p usual (a ++ (b ++ cells)) has.p
     ∙ (a_asks (given node.p usual) node.a 0 (b ++ cells) has.a
     ∙ (b_asks (given node.p usual) (given node.a 0) node.b 0x15d cells has.b

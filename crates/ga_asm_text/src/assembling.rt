@@ -2,16 +2,16 @@
 ghost use Rattle.ga_text.specs.Output.{ReadsAndWrites};
 ghost use Rattle.std.specs.Prelude.{◌≡◌, ◌++◌, Some, IfOk, IfSome};
 ghost use Rattle.ga_text.specs.Lines.{Bytes};
-ghost use Rattle.ga_console.specs.inner.Run.{Writes};
+ghost use Rattle.ga_console.specs.inner.Run.{WritesTextWithStatus};
 ghost use Rattle.ga_asm_text.specs.Source.{IsAssembledImage, WritesAssembly};
-ghost use Rattle.ga_asm_text.specs.SourceJson.{warnings_text};
+ghost use Rattle.ga_asm_text.specs.SourceJson.{store_warnings_text};
 ghost use Rattle.ga_asm_text.specs.inner.{IsSourceAssembly};
 
 use super::reading::read_source;
 use ga_console::Status;
-use ga_debug_info::{format_faults, report_code_stores, report_out_of_memory};
+use ga_debug_info::{format_faults, report_out_of_memory, report_stores_over_code};
 use ga_image::print;
-use ga_source::{AssembledChip, assemble};
+use ga_source::{AssembledChip, assemble_source_text};
 use ga_state_expectations::{
     ExpectationsError, check_source_expectations, format_expectation_faults,
 };
@@ -34,7 +34,7 @@ pub fn assemble_source<R: Read, W: Write, E: Write>(
 {
     match read_source(alloc, reader, errors) {
         Ok(source) => match image_of(alloc, errors, source) {
-            Some(image) => write_text(writer, image),
+            Some(image) => write_text_with_status(writer, image),
             None => Status::ImageRefused,
         },
         Err(status) => status,
@@ -42,9 +42,9 @@ pub fn assemble_source<R: Read, W: Write, E: Write>(
 }
 
 /// Writes a text.
-pub fn write_text<W: Write>(writer: &mut W, text: Vec<u8>) -> Status
+pub fn write_text_with_status<W: Write>(writer: &mut W, text: Vec<u8>) -> Status
     ensures { (before : Bytes) → W.contents writer.old ≡ Some before →
-        (sent : Bytes) × (W.contents writer.new ≡ Some (before ++ sent)) × Writes text.items sent result }
+        (sent : Bytes) × (W.contents writer.new ≡ Some (before ++ sent)) × WritesTextWithStatus text.items sent result }
 {
     match write_all(writer, text.as_slice()) {
         Ok(()) => Status::Done,
@@ -104,7 +104,7 @@ pub(crate) fn assemble_image(alloc: Global, source: &[u8]) -> SourceAssembly
     match check_source_expectations(alloc, source) {
         Ok(()) => assemble_programs(alloc, source),
         Err(ExpectationsError::Memory) => SourceAssembly::NoMemory,
-        Err(ExpectationsError::Faulty(faults)) => {
+        Err(ExpectationsError::FaultyLines(faults)) => {
             match format_expectation_faults(alloc, b"ga144: ", faults.as_slice()) {
                 Ok(lines) => SourceAssembly::Faulty(lines),
                 Err(_) => SourceAssembly::NoMemory,
@@ -117,7 +117,7 @@ pub(crate) fn assemble_image(alloc: Global, source: &[u8]) -> SourceAssembly
 fn assemble_programs(alloc: Global, source: &[u8]) -> SourceAssembly
     ensures { IsSourceAssembly source.now result }
 {
-    match assemble(alloc, source) {
+    match assemble_source_text(alloc, source) {
         Ok(assembled) => {
             if let Ok(image) = print(alloc, &assembled.chip) {
                 if let Ok(warnings) = warnings_of(alloc, &assembled) {
@@ -142,10 +142,10 @@ fn assemble_programs(alloc: Global, source: &[u8]) -> SourceAssembly
 /// # Errors
 /// Out of memory.
 fn warnings_of(alloc: Global, assembled: &AssembledChip<'_>) -> Result<Vec<u8>, AllocError>
-    ensures { IfOk result (λ warnings. warnings.items ≡ warnings_text assembled.now.programs.items) }
+    ensures { IfOk result (λ warnings. warnings.items ≡ store_warnings_text assembled.now.programs.items) }
 {
     let mut warnings = Vec::new(alloc);
-    match report_code_stores(alloc, &mut warnings, assembled)? {
+    match report_stores_over_code(alloc, &mut warnings, assembled)? {
         Ok(()) => Ok(warnings),
         Err(WriteError) => Err(AllocError),
     }

@@ -4,15 +4,15 @@ ghost use Rattle.std.specs.Prelude.{◌≡◌, ◌++◌, Some};
 ghost use Rattle.ga_text.specs.Lines.{Bytes};
 ghost use Rattle.ga_json.specs.Compact.{json_line};
 ghost use Rattle.ga_json.specs.Diagnostics.{diagnostics_json};
-ghost use Rattle.ga_console.specs.inner.Run.{Writes};
-ghost use Rattle.ga_asm_text.specs.SourceJson.{image_object, image_json, WritesAssemblyJson, WritesAssemblyInFormat};
-ghost use Rattle.ga_asm_text.specs.inner.{AssemblyJson, WritesRefusal};
+ghost use Rattle.ga_console.specs.inner.Run.{WritesTextWithStatus};
+ghost use Rattle.ga_asm_text.specs.SourceJson.{image_json_object, image_and_warnings_json, WritesAssemblyJson, WritesAssemblyInFormat};
+ghost use Rattle.ga_asm_text.specs.inner.{WritesAssemblyJsonAfterRead, WritesRefusalText};
 
 use super::assembling::{AssembledImage, SourceAssembly, assemble_image, assemble_source};
 use super::listing::refused;
 use ga_console::Status;
 use ga_json::{Field, ReportFormat, text_field, write_diagnostics, write_object};
-use ga_text::{WholeRead, WriteResult, Writer, read_whole_input, write_all};
+use ga_text::{WholeInputResult, WriteResult, Writer, read_whole_input, write_all};
 use std::alloc::Global;
 use std::io::{Read, Write};
 
@@ -24,7 +24,7 @@ const TOO_LONG: &[u8] = b"ga144: the source has more than 16777216 bytes\n";
 
 /// Reads source as [`assemble_source`] does, and writes what comes of it in this format: as JSON an object for the image and one for each
 /// warning, or one for each line that `errors` gets about a source without an image.
-pub fn assemble_in_format<R: Read, W: Write, E: Write>(
+pub fn assemble_source_in_format<R: Read, W: Write, E: Write>(
     alloc: Global,
     reader: &mut R,
     writer: &mut W,
@@ -53,10 +53,16 @@ fn assemble_objects<R: Read, W: Write, E: Write>(
         (R.remaining reader.old) (R.remaining reader.new) (W.contents writer.old) (W.contents writer.new) }
 {
     match read_whole_input(alloc, reader) {
-        WholeRead::Whole(source) => tell_source(alloc, file, source.as_slice(), writer, errors),
-        WholeRead::TooLong(_) => tell_refused(file, TOO_LONG, writer, errors),
-        WholeRead::ReadFailed => Status::StreamFault,
-        WholeRead::NoMemory => tell_refused(file, NO_MEMORY, writer, errors),
+        WholeInputResult::Whole(source) => tell_source(
+            alloc,
+            file,
+            source.as_slice(),
+            writer,
+            errors,
+        ),
+        WholeInputResult::TooLong(_) => tell_refused(file, TOO_LONG, writer, errors),
+        WholeInputResult::ReadFailed => Status::StreamFault,
+        WholeInputResult::NoMemory => tell_refused(file, NO_MEMORY, writer, errors),
     }
 }
 
@@ -68,7 +74,7 @@ fn tell_source<W: Write, E: Write>(
     writer: &mut W,
     errors: &mut E,
 ) -> Status
-    ensures { WritesText (λ text. AssemblyJson file.now source.now text result) (W.contents writer.old) (W.contents writer.new) }
+    ensures { WritesText (λ text. WritesAssemblyJsonAfterRead file.now source.now text result) (W.contents writer.old) (W.contents writer.new) }
 {
     match assemble_image(alloc, source) {
         SourceAssembly::Image(image) => tell_image(file, &image, writer, errors),
@@ -84,7 +90,7 @@ fn tell_refused<W: Write, E: Write>(
     writer: &mut W,
     errors: &mut E,
 ) -> Status
-    ensures { WritesText (λ text. WritesRefusal (diagnostics_json file.now lines.now) text result) (W.contents writer.old) (W.contents writer.new) }
+    ensures { WritesText (λ text. WritesRefusalText (diagnostics_json file.now lines.now) text result) (W.contents writer.old) (W.contents writer.new) }
 {
     let _written = write_all(errors, lines);
     let mut out = Writer::new(writer);
@@ -99,7 +105,7 @@ fn tell_image<W: Write, E: Write>(
     writer: &mut W,
     errors: &mut E,
 ) -> Status
-    ensures { WritesText (λ text. Writes (image_json file.now image.now.nodes image.now.image.items image.now.warnings.items) text result)
+    ensures { WritesText (λ text. WritesTextWithStatus (image_and_warnings_json file.now image.now.nodes image.now.image.items image.now.warnings.items) text result)
         (W.contents writer.old) (W.contents writer.new) }
 {
     let _written = write_all(errors, image.warnings.as_slice());
@@ -112,7 +118,7 @@ fn tell_image<W: Write, E: Write>(
 fn finish<W: Write>(said: WriteResult, writer: &mut Writer<'_, W>) -> Status
     ensures same { IsSameStream writer.old writer.new }
     ensures written { (before whole : Bytes) → IsTextWrittenOrTruncated said (W.contents writer.old.stream.now) before whole writer.old.pending.items →
-        (text : Bytes) × (W.contents writer.new.stream.now ≡ Some (before ++ text)) × Writes whole text result }
+        (text : Bytes) × (W.contents writer.new.stream.now ≡ Some (before ++ text)) × WritesTextWithStatus whole text result }
 {
     match said {
         Ok(()) => match writer.flush() {
@@ -132,7 +138,7 @@ fn write_image<W: Write>(
     image: &AssembledImage,
     writer: &mut Writer<'_, W>,
 ) -> WriteResult
-    ensures { WritesExactly result (image_json file.now image.now.nodes image.now.image.items image.now.warnings.items) W.contents writer.old writer.new }
+    ensures { WritesExactly result (image_and_warnings_json file.now image.now.nodes image.now.image.items image.now.warnings.items) W.contents writer.old writer.new }
 {
     write_image_object(file, image, writer)?;
     write_diagnostics(file, image.warnings.as_slice(), writer)
@@ -147,7 +153,7 @@ fn write_image_object<W: Write>(
     image: &AssembledImage,
     writer: &mut Writer<'_, W>,
 ) -> WriteResult
-    ensures { WritesExactly result (json_line (image_object file.now image.now.nodes image.now.image.items)) W.contents writer.old writer.new }
+    ensures { WritesExactly result (json_line (image_json_object file.now image.now.nodes image.now.image.items)) W.contents writer.old writer.new }
 {
     write_object(
         &[

@@ -1,7 +1,7 @@
 //! What source says of a cell in a comment: its address, and what it is to the code that P leads to.
 
 use arrayvec::ArrayVec;
-use ga_node::{Node, Place};
+use ga_node::{Node, NodePlace};
 use ga_ports::{AddressTarget, advance_p, classify_address};
 use ga_slots::{Op, opcode, target};
 use ga_word::Word18;
@@ -46,7 +46,7 @@ impl CellRoles {
             roles: [Role::Unreached; CELLS],
             followed: [false; CELLS],
         };
-        roles.note(node.get(Place::P), Role::Code);
+        roles.note(node.get(NodePlace::P), Role::Code);
         for _round in 0..CELLS {
             if !roles.follow_all(node) {
                 return roles;
@@ -210,8 +210,8 @@ fn cell_of(address: u32) -> Option<usize> {
 /// The word of the cell at an address, 0 where it names none.
 fn word_at(node: &Node, address: u32) -> Word18 {
     Word18::from_low_bits(match classify_address(address) {
-        AddressTarget::Ram(cell) => node.get(Place::Ram(cell)),
-        AddressTarget::Rom(cell) => node.get(Place::Rom(cell)),
+        AddressTarget::Ram(cell) => node.get(NodePlace::Ram(cell)),
+        AddressTarget::Rom(cell) => node.get(NodePlace::Rom(cell)),
         _ => 0,
     })
 }

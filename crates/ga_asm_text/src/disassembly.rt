@@ -2,35 +2,37 @@
 ghost use Rattle.ga_text.specs.Output.{WritesText, ReadsAndWrites};
 ghost use Rattle.std.specs.Prelude.{◌≡◌, ◌⊎◌, ◌<◌, ◌≤◌, [], ◌∷◌, length, codes, IfOk, IfErr, OnOk};
 ghost use Rattle.std.specs.List.{All};
-ghost use Rattle.ga_image.specs.FirstFault.{memory_fault, IsFirstFault};
+ghost use Rattle.ga_image.specs.FirstFault.{out_of_memory_fault, IsFirstImageFault};
 ghost use Rattle.ga_image.specs.Grammar.{IsImage};
-ghost use Rattle.ga_text.specs.Lines.{lines_of};
+ghost use Rattle.ga_text.specs.Lines.{lines_of_text};
 ghost use Rattle.ga_console.specs.Run.{IsFaultOfImage};
 ghost use Rattle.ga_asm_text.specs.Source.{IsDisassembly, WritesDisassembly};
-ghost use Rattle.ga_asm_text.specs.inner.{Disassembly, IsOrdinary, IsUnmarked, Says, Adds, AddsRemark, number_word, register_words, address_words, cell_words, next_of, cells_words, next_behind, holds_words as holds_words_of, usual_p as usual_p_of, registers_words, memory_words, node_words, named_words, source_words, AreCells, HasRegisters, HasMemories, IsFit};
+ghost use Rattle.ga_asm_text.specs.inner.{WritesDisassemblyAfterRead, IsOrdinarySourceWord, LacksByteOrderMark, TextSaysWords, AppendsSourceWords, AddsBytesWithinLastLine, hex_number_source_word, register_source_words, address_source_words, cell_source_words, address_after_cell, cells_words, address_after_cells, has_nonzero_memory as holds_words_of, default_register_p as usual_p_of, registers_source_words, memory_source_words, node_source_words, node_source_words_with_name, source_words, AreCellsOfWholeMemory, HasRegistersInRange, HasBothMemoriesWhole, HasMemoriesAndRegistersInRange};
 
-use super::assembling::write_text;
+use super::assembling::write_text_with_status;
 use super::comment::CellRoles;
 use super::number_text::{push_hex, push_node};
 use ga_console::{Status, write_image_refusal};
-use ga_debug_info::{find_image_artifact, report_editor_artifact, report_unrepresented};
-use ga_grid::{CHIP_NODES, Chip, NodeId, load_p};
-use ga_image::{ImageCause, ImageFault, parse};
-use ga_node::{Node, Place};
-use ga_text::{WholeRead, read_whole_input};
+use ga_debug_info::{
+    find_stray_character_in_image, report_stray_character, report_unrepresented_fields,
+};
+use ga_grid::{CHIP_NODE_COUNT, Chip, NodeId, initial_p};
+use ga_image::{ImageFault, ImageFaultCause, parse};
+use ga_node::{Node, NodePlace};
+use ga_text::{WholeInputResult, read_whole_input};
 use std::alloc::{AllocError, Global};
 use std::io::{Read, Write};
 
 /// The fault of an image for which memory was wanting.
 const NO_MEMORY: ImageFault = ImageFault {
     line: 0,
-    cause: ImageCause::Memory,
+    cause: ImageFaultCause::Memory,
 };
 
 /// Reads an image of either format up to its first line `end`, and writes source that gives the same memories, A, B and P. What
 /// else its nodes hold, which source can't express, is written to `errors`, a line for each node. A refused image gets its
 /// refusal.
-pub fn disassemble<R: Read, W: Write, E: Write>(
+pub fn disassemble_image<R: Read, W: Write, E: Write>(
     alloc: Global,
     reader: &mut R,
     writer: &mut W,
@@ -41,11 +43,11 @@ pub fn disassemble<R: Read, W: Write, E: Write>(
         (R.remaining reader.old) (R.remaining reader.new) (W.contents writer.old) (W.contents writer.new) }
 {
     match read_whole_input(alloc, reader) {
-        WholeRead::Whole(image) => disassemble_text(alloc, writer, errors, image),
+        WholeInputResult::Whole(image) => disassemble_text(alloc, writer, errors, image),
         // No image that is accepted is so long.
-        WholeRead::TooLong(image) => disassemble_text(alloc, writer, errors, image),
-        WholeRead::ReadFailed => Status::StreamFault,
-        WholeRead::NoMemory => write_image_refusal(writer, NO_MEMORY),
+        WholeInputResult::TooLong(image) => disassemble_text(alloc, writer, errors, image),
+        WholeInputResult::ReadFailed => Status::StreamFault,
+        WholeInputResult::NoMemory => write_image_refusal(writer, NO_MEMORY),
     }
 }
 
@@ -56,10 +58,10 @@ fn disassemble_text<W: Write, E: Write>(
     errors: &mut E,
     image: Vec<u8>,
 ) -> Status
-    ensures { WritesText (λ text. Disassembly image.items text result) (W.contents writer.old) (W.contents writer.new) }
+    ensures { WritesText (λ text. WritesDisassemblyAfterRead image.items text result) (W.contents writer.old) (W.contents writer.new) }
 {
     match source_for(alloc, errors, image) {
-        Ok(text) => write_text(writer, text),
+        Ok(text) => write_text_with_status(writer, text),
         Err(fault) => write_image_refusal(writer, fault),
     }
 }
@@ -76,7 +78,7 @@ fn source_for<E: Write>(
     let chip = parse_told(alloc, errors, image.as_slice())?;
     match source_of(alloc, &chip) {
         Ok(text) => {
-            if report_unrepresented(alloc, errors, &chip).is_err() {
+            if report_unrepresented_fields(alloc, errors, &chip).is_err() {
                 return Err(NO_MEMORY);
             }
             Ok(text)
@@ -87,24 +89,24 @@ fn source_for<E: Write>(
 
 /// The chip of an image. For a refused one, `errors` gets what an editor wrote into it.
 fn parse_told<E: Write>(alloc: Global, errors: &mut E, image: &[u8]) -> Result<Chip, ImageFault>
-    ensures found { IfOk result (λ chip. IsImage (lines_of image.now) chip) }
-    ensures refused { IfErr result (λ fault. (fault ≡ memory_fault) ⊎ IsFirstFault (lines_of image.now) fault) }
+    ensures found { IfOk result (λ chip. IsImage (lines_of_text image.now) chip) }
+    ensures refused { IfErr result (λ fault. (fault ≡ out_of_memory_fault) ⊎ IsFirstImageFault (lines_of_text image.now) fault) }
 {
     let parsed = parse(alloc, image);
     if parsed.is_err() {
-        let _written = report_editor_artifact(errors, find_image_artifact(image));
+        let _written = report_stray_character(errors, find_stray_character_in_image(image));
     }
     parsed
 }
 
 /// Source of the memories, A, B and P of a chip.
 fn source_of(alloc: Global, chip: &Chip) -> Result<Vec<u8>, AllocError>
-    ensures says { IfOk result (λ text. Says text.items (source_words 0 chip.now)) }
+    ensures says { IfOk result (λ text. TextSaysWords text.items (source_words 0 chip.now)) }
     ensures size { OnOk result (length chip.now ≡ 144) }
-    ensures fit { OnOk result (All IsFit chip.now) }
+    ensures fit { OnOk result (All HasMemoriesAndRegistersInRange chip.now) }
 {
     let mut text = Vec::new(alloc);
-    for number in 0..CHIP_NODES as u8 {
+    for number in 0..CHIP_NODE_COUNT as u8 {
         let node = NodeId::new(number);
         push_program(&mut text, node, chip.node(node))?;
     }
@@ -113,13 +115,13 @@ fn source_of(alloc: Global, chip: &Chip) -> Result<Vec<u8>, AllocError>
 
 /// Adds what source says of a node, unless that is nothing.
 fn push_program(text: &mut Vec<u8>, id: NodeId, node: &Node) -> Result<(), AllocError>
-    ensures says { OnOk result (Adds text.old.items text.new.items (named_words id.number (node_words id.number node.now))) }
-    ensures fit { OnOk result (IsFit node.now) }
+    ensures says { OnOk result (AppendsSourceWords text.old.items text.new.items (node_source_words_with_name id.number (node_source_words id.number node.now))) }
+    ensures fit { OnOk result (HasMemoriesAndRegistersInRange node.now) }
 {
     let before = text.len();
     push_node(text, id)?;
     let begun = text.len();
-    push_registers(text, id, node, holds_words(node))?;
+    push_registers(text, id, node, has_nonzero_memory(node))?;
     push_cells(text, node)?;
     if text.len() == begun {
         text.truncate(before);
@@ -129,14 +131,14 @@ fn push_program(text: &mut Vec<u8>, id: NodeId, node: &Node) -> Result<(), Alloc
 
 /// Whether a cell isn't 0.
 #[tactic(auto, using(crate::proofs::Cells::looking_first, crate::proofs::Cells::found_in_ram, crate::proofs::Cells::found_in_rom, crate::proofs::Cells::looking_more, crate::proofs::Cells::found_nowhere))]
-fn holds_words(node: &Node) -> bool
+fn has_nonzero_memory(node: &Node) -> bool
     ensures { result ≡ holds_words_of node.now }
 {
     for cell in 0..64u8 {
-        if node.get(Place::Ram(cell)) != 0 {
+        if node.get(NodePlace::Ram(cell)) != 0 {
             return true;
         }
-        if node.get(Place::Rom(cell)) != 0 {
+        if node.get(NodePlace::Rom(cell)) != 0 {
             return true;
         }
     }
@@ -150,28 +152,33 @@ fn push_registers(
     node: &Node,
     has_cells: bool,
 ) -> Result<(), AllocError>
-    ensures says { OnOk result (Adds text.old.items text.new.items (registers_words id.number node.now has_cells)) }
-    ensures fit { OnOk result (HasRegisters node.now) }
+    ensures says { OnOk result (AppendsSourceWords text.old.items text.new.items (registers_source_words id.number node.now has_cells)) }
+    ensures fit { OnOk result (HasRegistersInRange node.now) }
 {
-    push_register(text, b"/p", node.get(Place::P), usual_p(id, has_cells))?;
-    push_register(text, b"/a", node.get(Place::A), 0)?;
-    push_register(text, b"/b", node.get(Place::B), 0x15d)?;
+    push_register(
+        text,
+        b"/p",
+        node.get(NodePlace::P),
+        default_register_p(id, has_cells),
+    )?;
+    push_register(text, b"/a", node.get(NodePlace::A), 0)?;
+    push_register(text, b"/b", node.get(NodePlace::B), 0x15d)?;
     Ok(())
 }
 
 /// P where no line gives it.
-fn usual_p(id: NodeId, has_cells: bool) -> u32
+fn default_register_p(id: NodeId, has_cells: bool) -> u32
     ensures { result ≡ usual_p_of id.number has_cells }
 {
-    if has_cells { 0 } else { load_p(id) }
+    if has_cells { 0 } else { initial_p(id) }
 }
 
 /// Adds a register, unless it has this value.
 fn push_register(text: &mut Vec<u8>, name: &[u8], value: u32, usual: u32) -> Result<(), AllocError>
-    requires start { IsUnmarked name.now }
-    requires ordinary { IsOrdinary name.now }
+    requires start { LacksByteOrderMark name.now }
+    requires ordinary { IsOrdinarySourceWord name.now }
     requires short { length name.now ≤ 10 }
-    ensures { OnOk result (Adds text.old.items text.new.items (register_words name.now value usual)) }
+    ensures { OnOk result (AppendsSourceWords text.old.items text.new.items (register_source_words name.now value usual)) }
 {
     if value != usual {
         text.extend_from_slice(name)?;
@@ -184,8 +191,8 @@ fn push_register(text: &mut Vec<u8>, name: &[u8], value: u32, usual: u32) -> Res
 
 /// Adds the cells that aren't 0, each run of them after its `org`.
 fn push_cells(text: &mut Vec<u8>, node: &Node) -> Result<(), AllocError>
-    ensures says { OnOk result (Adds text.old.items text.new.items (memory_words node.now)) }
-    ensures fit { OnOk result (HasMemories node.now) }
+    ensures says { OnOk result (AppendsSourceWords text.old.items text.new.items (memory_source_words node.now)) }
+    ensures fit { OnOk result (HasBothMemoriesWhole node.now) }
 {
     let roles = CellRoles::of(node);
     let next = push_ram(text, node, &roles)?;
@@ -195,16 +202,16 @@ fn push_cells(text: &mut Vec<u8>, node: &Node) -> Result<(), AllocError>
 
 /// Adds the cells of RAM. Returns the address after the last one.
 fn push_ram(text: &mut Vec<u8>, node: &Node, roles: &CellRoles) -> Result<u32, AllocError>
-    ensures says { OnOk result (Adds text.old.items text.new.items (cells_words 0 0 node.now.ram)) }
-    ensures next { IfOk result (λ next. next ≡ next_behind 0 0 node.now.ram) }
-    ensures fit { OnOk result (AreCells node.now.ram) }
+    ensures says { OnOk result (AppendsSourceWords text.old.items text.new.items (cells_words 0 0 node.now.ram)) }
+    ensures next { IfOk result (λ next. next ≡ address_after_cells 0 0 node.now.ram) }
+    ensures fit { OnOk result (AreCellsOfWholeMemory node.now.ram) }
 {
     let mut next = 0;
     for cell in 0..64u8 {
         next = push_word(
             text,
             roles,
-            node.get(Place::Ram(cell)),
+            node.get(NodePlace::Ram(cell)),
             u32::from(cell),
             next,
         )?;
@@ -219,15 +226,15 @@ fn push_rom(
     roles: &CellRoles,
     behind: u32,
 ) -> Result<(), AllocError>
-    ensures says { OnOk result (Adds text.old.items text.new.items (cells_words 0x80 behind node.now.rom)) }
-    ensures fit { OnOk result (AreCells node.now.rom) }
+    ensures says { OnOk result (AppendsSourceWords text.old.items text.new.items (cells_words 0x80 behind node.now.rom)) }
+    ensures fit { OnOk result (AreCellsOfWholeMemory node.now.rom) }
 {
     let mut next = behind;
     for cell in 0..64u8 {
         next = push_word(
             text,
             roles,
-            node.get(Place::Rom(cell)),
+            node.get(NodePlace::Rom(cell)),
             0x80 + u32::from(cell),
             next,
         )?;
@@ -244,8 +251,8 @@ fn push_word(
     next: u32,
 ) -> Result<u32, AllocError>
     requires { address < 0x400 }
-    ensures says { OnOk result (Adds text.old.items text.new.items (cell_words word address next)) }
-    ensures next { IfOk result (λ behind. behind ≡ next_of word address next) }
+    ensures says { OnOk result (AppendsSourceWords text.old.items text.new.items (cell_source_words word address next)) }
+    ensures next { IfOk result (λ behind. behind ≡ address_after_cell word address next) }
 {
     if word == 0 {
         return Ok(next);
@@ -257,7 +264,7 @@ fn push_word(
 
 /// Adds `org` and the address, unless it is the next one.
 fn push_address(text: &mut Vec<u8>, address: u32, next: u32) -> Result<(), AllocError>
-    ensures { OnOk result (Adds text.old.items text.new.items (address_words address next)) }
+    ensures { OnOk result (AppendsSourceWords text.old.items text.new.items (address_source_words address next)) }
 {
     if address != next {
         text.extend_from_slice(b"org 0x")?;
@@ -270,7 +277,7 @@ fn push_address(text: &mut Vec<u8>, address: u32, next: u32) -> Result<(), Alloc
 /// Adds a cell, followed by a remark.
 fn push_cell(text: &mut Vec<u8>, word: u32, remark: &[u8]) -> Result<(), AllocError>
     requires { length remark.now ≤ 80 }
-    ensures { OnOk result (Adds text.old.items text.new.items (number_word 6 word ∷ codes "," ∷ [])) }
+    ensures { OnOk result (AppendsSourceWords text.old.items text.new.items (hex_number_source_word 6 word ∷ codes "," ∷ [])) }
 {
     text.extend_from_slice(b"0x")?;
     push_hex(text, word, 6)?;
@@ -283,7 +290,7 @@ fn push_cell(text: &mut Vec<u8>, word: u32, remark: &[u8]) -> Result<(), AllocEr
 /// Adds a remark, but for bytes that would end its line: the remark is in this line alone.
 #[tactic(auto, using(crate::proofs::SourceLines::remark_none, crate::proofs::SourceLines::remark_both, crate::proofs::SourceLines::remark_more))]
 fn push_remark(text: &mut Vec<u8>, remark: &[u8]) -> Result<(), AllocError>
-    ensures { OnOk result (AddsRemark (length remark.now) text.old.items text.new.items) }
+    ensures { OnOk result (AddsBytesWithinLastLine (length remark.now) text.old.items text.new.items) }
 {
     for byte in remark {
         push_inner(text, *byte)?;
@@ -293,7 +300,7 @@ fn push_remark(text: &mut Vec<u8>, remark: &[u8]) -> Result<(), AllocError>
 
 /// Adds a byte, unless it would end its line.
 fn push_inner(text: &mut Vec<u8>, byte: u8) -> Result<(), AllocError>
-    ensures { OnOk result (AddsRemark 1 text.old.items text.new.items) }
+    ensures { OnOk result (AddsBytesWithinLastLine 1 text.old.items text.new.items) }
 {
     if byte != b'\n' && byte != b'\r' {
         text.push(byte)?;

@@ -1,12 +1,12 @@
 //! The faults of a listing, each between the cells at its word.
 
 ghost use Rattle.std.specs.Prelude.{◌≡◌, ◌+◌, ◌<◌, ◌++◌, [], true, length, map, OnOk};
-ghost use Rattle.ga_source.specs.Recovery.{faults_by_line};
+ghost use Rattle.ga_source.specs.Recovery.{faults_at_lines_of_words};
 ghost use Rattle.ga_asm_text.specs.Source.{fault_line_text, listed_fault_text};
-ghost use Rattle.ga_asm_text.specs.inner.{is_repeated as is_repeated_by, lines_left, Tells};
+ghost use Rattle.ga_asm_text.specs.inner.{is_repeated_fault as is_repeated_by, fault_lines_left, IsListingExtended};
 
-use ga_debug_info::{Lines, push_fault};
-use ga_source::{SourceFault, Token, fault_on_line, line_of_numbered_word};
+use ga_debug_info::{SourceLineCursor, push_fault};
+use ga_source::{SourceFault, Token, fault_on_line_of_word, line_of_numbered_word};
 use std::alloc::AllocError;
 
 /// The words of a source by their numbers, and its faults in the order of their words.
@@ -14,7 +14,7 @@ use std::alloc::AllocError;
 pub(crate) struct FaultLines<'a, 's> {
     /// The word of number N is at N - 1.
     words: &'a [Token<'s>],
-    lines: Lines<'s>,
+    lines: SourceLineCursor<'s>,
     /// The faults. The line of each is the number of a word.
     faults: Vec<SourceFault<'s>>,
     /// How many faults were listed or left out.
@@ -30,11 +30,11 @@ impl<'a, 's> FaultLines<'a, 's> {
         words: &'a [Token<'s>],
         faults: Vec<SourceFault<'s>>,
     ) -> Self
-        ensures { lines_left result ≡ map (listed_fault_text source.now) (faults_by_line words.now faults.entry.items) }
+        ensures { fault_lines_left result ≡ map (listed_fault_text source.now) (faults_at_lines_of_words words.now faults.entry.items) }
     {
         FaultLines {
             words,
-            lines: Lines::new(source),
+            lines: SourceLineCursor::new(source),
             faults,
             told: 0,
             last: None,
@@ -43,7 +43,7 @@ impl<'a, 's> FaultLines<'a, 's> {
 
     /// The line of the source that has the word with a number.
     pub(crate) fn line(&mut self, number: u32) -> &'s [u8]
-        ensures { lines_left self.new ≡ lines_left self.old }
+        ensures { fault_lines_left self.new ≡ fault_lines_left self.old }
     {
         let line = line_of_numbered_word(self.words, number);
         self.lines.line(line)
@@ -52,7 +52,7 @@ impl<'a, 's> FaultLines<'a, 's> {
     /// Adds the faults of the words before the one of a number, each with its line. What is equal to the one before is left out.
     #[tactic(auto, using(crate::proofs::FaultListing::tells_same, crate::proofs::FaultListing::tells_both, crate::proofs::FaultListing::left_none))]
     pub(crate) fn push_before(&mut self, text: &mut Vec<u8>, number: u32) -> Result<(), AllocError>
-        ensures { OnOk result (Tells text.old.items text.new.items (lines_left self.old) (lines_left self.new)) }
+        ensures { OnOk result (IsListingExtended text.old.items text.new.items (fault_lines_left self.old) (fault_lines_left self.new)) }
     {
         while self.is_before(number) {
             self.push_next(text)?;
@@ -63,7 +63,7 @@ impl<'a, 's> FaultLines<'a, 's> {
     /// Adds the faults that are left.
     #[tactic(auto, using(crate::proofs::FaultListing::tells_same, crate::proofs::FaultListing::tells_both, crate::proofs::FaultListing::left_none))]
     pub(crate) fn push_rest(&mut self, text: &mut Vec<u8>) -> Result<(), AllocError>
-        ensures { OnOk result (Tells text.old.items text.new.items (lines_left self.old) []) }
+        ensures { OnOk result (IsListingExtended text.old.items text.new.items (fault_lines_left self.old) []) }
     {
         while self.told < self.faults.len() {
             self.push_next(text)?;
@@ -84,13 +84,13 @@ impl<'a, 's> FaultLines<'a, 's> {
     /// Adds the next fault with its line, unless it is equal to the last one.
     fn push_next(&mut self, text: &mut Vec<u8>) -> Result<(), AllocError>
         requires { self.old.told < length self.old.faults.items }
-        ensures told { OnOk result (Tells text.old.items text.new.items (lines_left self.old) (lines_left self.new)) }
+        ensures told { OnOk result (IsListingExtended text.old.items text.new.items (fault_lines_left self.old) (fault_lines_left self.new)) }
         ensures next { OnOk result (self.new.told ≡ self.old.told + 1) }
         ensures same { self.new.faults ≡ self.old.faults }
     {
-        let fault = fault_on_line(self.words, self.faults[self.told]);
+        let fault = fault_on_line_of_word(self.words, self.faults[self.told]);
         self.told += 1;
-        if is_repeated(self.last, fault) {
+        if is_repeated_fault(self.last, fault) {
             return Ok(());
         }
         self.last = Some(fault);
@@ -100,7 +100,7 @@ impl<'a, 's> FaultLines<'a, 's> {
 }
 
 /// Whether a fault is equal to the last one.
-fn is_repeated(last: Option<SourceFault<'_>>, fault: SourceFault<'_>) -> bool
+fn is_repeated_fault(last: Option<SourceFault<'_>>, fault: SourceFault<'_>) -> bool
     ensures { result ≡ is_repeated_by last.entry fault.entry }
 {
     match last {

@@ -2,11 +2,11 @@
 
 ghost use Rattle.std.specs.Prelude.{ℕ, ◌≡◌, ◌<◌, ◌++◌, List};
 ghost use Rattle.ga_node.specs.Record.{NodeState};
-ghost use Rattle.ga_grid.specs.Chip.{node_at, records_of};
-ghost use Rattle.ga_text.specs.Lines.{Text, lines_of};
+ghost use Rattle.ga_grid.specs.Chip.{node_at, records_of_chip};
+ghost use Rattle.ga_text.specs.Lines.{Text, lines_of_text};
 ghost use Rattle.ga_image.specs.Grammar.{IsImage};
 ghost use Rattle.ga_image.specs.Printing.{IsImageOfRecords};
-ghost use Rattle.ga_asm_text.specs.Source.{IsAssembledImage, HasSameLoad, IsDisassembly, WritesAssembly};
+ghost use Rattle.ga_asm_text.specs.Source.{IsAssembledImage, HasSameMemoriesAndRegisters, IsDisassembly, WritesAssembly};
 ghost use Rattle.ga_console.specs.declared.run.Status.TheVariants.{Done};
 ghost use Rattle.ga_source.specs.Made.{IsChipOfSource};
 
@@ -15,9 +15,9 @@ ghost use Rattle.ga_source.specs.Made.{IsChipOfSource};
 /// part.
 pub fn disassembly_round_trips()
     ensures made { (image text : Text) (made : List NodeState) → IsDisassembly image text → IsChipOfSource text made →
-        (chip : List NodeState) × IsImage (lines_of image) chip × ((n : ℕ) → n < 144 → HasSameLoad (node_at chip n) (node_at made n)) }
+        (chip : List NodeState) × IsImage (lines_of_text image) chip × ((n : ℕ) → n < 144 → HasSameMemoriesAndRegisters (node_at chip n) (node_at made n)) }
     ensures written { (image text again : Text) → IsDisassembly image text → IsAssembledImage text again →
-        (chip made : List NodeState) × IsImage (lines_of image) chip × IsImageOfRecords (lines_of again) (records_of made) × ((n : ℕ) → n < 144 → HasSameLoad (node_at chip n) (node_at made n)) }
+        (chip made : List NodeState) × IsImage (lines_of_text image) chip × IsImageOfRecords (lines_of_text again) (records_of_chip made) × ((n : ℕ) → n < 144 → HasSameMemoriesAndRegisters (node_at chip n) (node_at made n)) }
     ensures read { (image text read rest again : Text) → IsDisassembly image text → text ≡ read ++ rest → WritesAssembly read rest again Done →
-        (chip made : List NodeState) × IsImage (lines_of image) chip × IsImageOfRecords (lines_of again) (records_of made) × ((n : ℕ) → n < 144 → HasSameLoad (node_at chip n) (node_at made n)) }
+        (chip made : List NodeState) × IsImage (lines_of_text image) chip × IsImageOfRecords (lines_of_text again) (records_of_chip made) × ((n : ℕ) → n < 144 → HasSameMemoriesAndRegisters (node_at chip n) (node_at made n)) }
 {}

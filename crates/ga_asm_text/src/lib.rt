@@ -14,6 +14,6 @@ mod program_listing;
 mod reading;
 
 pub use assembling::assemble_source;
-pub use assembly_json::assemble_in_format;
-pub use disassembly::disassemble;
+pub use assembly_json::assemble_source_in_format;
+pub use disassembly::disassemble_image;
 pub use listing::list_source;

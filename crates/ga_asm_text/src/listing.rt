@@ -3,22 +3,23 @@
 ghost use Rattle.ga_text.specs.Output.{ReadsAndWrites};
 ghost use Rattle.std.specs.Prelude.{◌≡◌, ◌++◌, Some, IfOk, IfSome};
 ghost use Rattle.ga_text.specs.Lines.{Bytes};
-ghost use Rattle.ga_asm_text.specs.inner.{Listing, IsListed, with_fault, behind_listing, lines_left};
-ghost use Rattle.ga_parser.specs.declared.fault.SourceCause.TheVariants.{Memory};
-ghost use Rattle.ga_source.specs.Made.{IsSoundSource};
-ghost use Rattle.ga_source.specs.Recovery.{faults_by_line};
-ghost use Rattle.ga_debug_info.specs.Faults.{faults_text, error_prefix};
+ghost use Rattle.ga_asm_text.specs.inner.{WritesListingAfterRead, IsListingOutcome, status_with_listing_fault, status_after_listing, fault_lines_left};
+ghost use Rattle.ga_parser.specs.declared.fault.SourceFaultCause.TheVariants.{Memory};
+ghost use Rattle.ga_source.specs.Made.{IsPlainSource};
+ghost use Rattle.ga_source.specs.Recovery.{faults_at_lines_of_words};
+ghost use Rattle.ga_debug_info.specs.Faults.{reported_faults_text, error_prefix};
 ghost use Rattle.ga_asm_text.specs.Source.{WritesListing, HasTextPartsInOrder};
 
-use super::assembling::write_text;
+use super::assembling::write_text_with_status;
 use super::fault_lines::FaultLines;
 use super::program_listing::push_listed_program;
 use super::reading::read_source;
 use ga_console::Status;
 use ga_debug_info::{push_faults, report_out_of_memory};
 use ga_source::{
-    AssembledChip, RecoveredPrograms, SourceCause, SourceFault, Token, assemble_by_word_number,
-    faults_on_lines, faults_or_first, recover_words, source_words, source_words_without_copies,
+    AssembledChip, RecoveredPrograms, SourceFault, SourceFaultCause, Token,
+    assemble_by_word_number, faults_on_lines_of_words, faults_or_first_fault, recover_programs,
+    source_words, source_words_without_copies,
 };
 use ga_state_expectations::{check_source_expectations, report_expectations_error};
 use ga_text::write_all;
@@ -49,7 +50,7 @@ pub fn list_source<R: Read, W: Write, E: Write>(
 
 /// The listing of a source; or none, and what is wrong with what it expects of its programs is written to `errors`, or that memory ran out.
 fn accepted_listing<E: Write>(alloc: Global, errors: &mut E, source: &[u8]) -> Option<Listed>
-    ensures { IfSome result (λ listed. IsListed source.now listed.is_faulty listed.text.items) }
+    ensures { IfSome result (λ listed. IsListingOutcome source.now listed.is_faulty listed.text.items) }
 {
     if let Err(why) = check_source_expectations(alloc, source) {
         let _written = report_expectations_error(alloc, errors, &why);
@@ -66,8 +67,8 @@ fn accepted_listing<E: Write>(alloc: Global, errors: &mut E, source: &[u8]) -> O
 
 /// Writes a listing, and the lines of its faults to `errors`.
 fn write_listed<W: Write, E: Write>(writer: &mut W, errors: &mut E, listed: Listed) -> Status
-    ensures { (before source : Bytes) → W.contents writer.old ≡ Some before → IsListed source listed.is_faulty listed.text.items →
-        (text : Bytes) × (W.contents writer.new ≡ Some (before ++ text)) × Listing source text result }
+    ensures { (before source : Bytes) → W.contents writer.old ≡ Some before → IsListingOutcome source listed.is_faulty listed.text.items →
+        (text : Bytes) × (W.contents writer.new ≡ Some (before ++ text)) × WritesListingAfterRead source text result }
 {
     let Listed {
         text,
@@ -77,20 +78,20 @@ fn write_listed<W: Write, E: Write>(writer: &mut W, errors: &mut E, listed: List
     if is_faulty {
         let _written = write_all(errors, report.as_slice());
     }
-    let written = write_text(writer, text);
+    let written = write_text_with_status(writer, text);
     status_behind(written, is_faulty)
 }
 
 /// The status after a listing, with a fault or without.
 fn status_behind(written: Status, is_faulty: bool) -> Status
-    ensures { result ≡ behind_listing written is_faulty }
+    ensures { result ≡ status_after_listing written is_faulty }
 {
     if is_faulty { refused(written) } else { written }
 }
 
 /// The status after a listing with a fault.
 pub(crate) fn refused(written: Status) -> Status
-    ensures { result ≡ with_fault written }
+    ensures { result ≡ status_with_listing_fault written }
 {
     match written {
         Status::Done => Status::ImageRefused,
@@ -111,7 +112,7 @@ struct Listed {
 /// # Errors
 /// Out of memory.
 fn listing_of(alloc: Global, source: &[u8]) -> Result<Listed, SourceFault<'_>>
-    ensures { IfOk result (λ listed. IsListed source.now listed.is_faulty listed.text.items) }
+    ensures { IfOk result (λ listed. IsListingOutcome source.now listed.is_faulty listed.text.items) }
 {
     let words = source_words(alloc, source)?;
     let all = words.as_slice();
@@ -138,16 +139,16 @@ fn faulty_listing<'s>(
     source: &'s [u8],
     fault: SourceFault<'s>,
 ) -> Result<Listed, SourceFault<'s>>
-    requires { IsSoundSource source.now → fault.cause ≡ Memory }
-    ensures { IfOk result (λ listed. IsListed source.now listed.is_faulty listed.text.items) }
+    requires { IsPlainSource source.now → fault.cause ≡ Memory }
+    ensures { IfOk result (λ listed. IsListingOutcome source.now listed.is_faulty listed.text.items) }
 {
-    if fault.cause == SourceCause::Memory {
+    if fault.cause == SourceFaultCause::Memory {
         return Err(fault);
     }
     let all = source_words_without_copies(alloc, source)?;
     let words = all.as_slice();
-    let RecoveredPrograms { assembled, faults } = recover_words(alloc, words)?;
-    let faults = faults_or_first(faults, fault)?;
+    let RecoveredPrograms { assembled, faults } = recover_programs(alloc, words)?;
+    let faults = faults_or_first_fault(faults, fault)?;
     let report = report_of(alloc, words, faults.as_slice())?;
     let lines = FaultLines::new(source, words, faults);
     let text = listing(alloc, &assembled, lines)?;
@@ -164,9 +165,9 @@ fn report_of(
     words: &[Token<'_>],
     faults: &[SourceFault<'_>],
 ) -> Result<Vec<u8>, AllocError>
-    ensures { IfOk result (λ report. report.items ≡ faults_text error_prefix (faults_by_line words.now faults.now)) }
+    ensures { IfOk result (λ report. report.items ≡ reported_faults_text error_prefix (faults_at_lines_of_words words.now faults.now)) }
 {
-    let faults = faults_on_lines(alloc, words, faults)?;
+    let faults = faults_on_lines_of_words(alloc, words, faults)?;
     let mut report = Vec::new(alloc);
     push_faults(&mut report, b"ga144: ", faults.as_slice())?;
     Ok(report)
@@ -179,7 +180,7 @@ fn listing(
     assembled: &AssembledChip<'_>,
     mut lines: FaultLines<'_, '_>,
 ) -> Result<Vec<u8>, AllocError>
-    ensures { IfOk result (λ text. HasTextPartsInOrder (lines_left lines.entry) text.items) }
+    ensures { IfOk result (λ text. HasTextPartsInOrder (fault_lines_left lines.entry) text.items) }
 {
     let mut text = Vec::new(alloc);
     for program in &assembled.programs {

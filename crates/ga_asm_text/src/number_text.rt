@@ -2,19 +2,19 @@
 
 ghost use Rattle.std.specs.Prelude.{◌≡◌, ◌≤◌, ◌<◌, ◌++◌, [], ◌∷◌, codes, OnOk, slice_index};
 ghost use Rattle.hex.specs.Hex.{lower_digits};
-ghost use Rattle.ga_grid.specs.Grid.{yxx_of};
-ghost use Rattle.ga_text.specs.Digits.{decimal3_of};
-ghost use Rattle.ga_asm_text.specs.inner.{Adds, hex_of};
+ghost use Rattle.ga_grid.specs.Grid.{decimal_name_of_node};
+ghost use Rattle.ga_text.specs.Digits.{three_decimal_digits};
+ghost use Rattle.ga_asm_text.specs.inner.{AppendsSourceWords, last_hex_digits};
 
 use ga_grid::NodeId;
 use std::alloc::AllocError;
 
 /// Adds `node` and the node's name.
 pub(crate) fn push_node(text: &mut Vec<u8>, node: NodeId) -> Result<(), AllocError>
-    ensures { OnOk result (Adds text.old.items text.new.items (codes "node" ∷ decimal3_of (yxx_of node.number) ∷ [])) }
+    ensures { OnOk result (AppendsSourceWords text.old.items text.new.items (codes "node" ∷ three_decimal_digits (decimal_name_of_node node.number) ∷ [])) }
 {
     text.extend_from_slice(b"node ")?;
-    text.extend_from_slice(&three_digits(node.yxx()))?;
+    text.extend_from_slice(&three_digits(node.decimal_name()))?;
     text.push(b'\n')?;
     Ok(())
 }
@@ -22,7 +22,7 @@ pub(crate) fn push_node(text: &mut Vec<u8>, node: NodeId) -> Result<(), AllocErr
 /// A number in three digits.
 fn three_digits(number: u32) -> [u8; 3]
     requires { number < 1000 }
-    ensures { result ≡ decimal3_of number }
+    ensures { result ≡ three_decimal_digits number }
 {
     [
         b'0' + (number / 100) as u8,
@@ -35,7 +35,7 @@ fn three_digits(number: u32) -> [u8; 3]
 #[tactic(auto, using(crate::proofs::HexLemmas::hex_more))]
 pub(crate) fn push_hex(text: &mut Vec<u8>, number: u32, digits: u32) -> Result<(), AllocError>
     requires { digits ≤ 8 }
-    ensures { OnOk result (text.new.items ≡ text.old.items ++ hex_of digits number) }
+    ensures { OnOk result (text.new.items ≡ text.old.items ++ last_hex_digits digits number) }
 {
     let mut left = digits;
     while left > 0 {

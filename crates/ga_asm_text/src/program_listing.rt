@@ -1,12 +1,12 @@
 //! The lines of a program in a listing: its node, its labels and its cells.
 
 ghost use Rattle.std.specs.Prelude.{OnOk};
-ghost use Rattle.ga_asm_text.specs.inner.{lines_left, Grows, Tells};
+ghost use Rattle.ga_asm_text.specs.inner.{fault_lines_left, IsTextExtended, IsListingExtended};
 
 use super::fault_lines::FaultLines;
 use super::number_text::{push_hex, push_node};
 use ga_grid::{Chip, NodeId};
-use ga_node::Place;
+use ga_node::NodePlace;
 use ga_ports::{AddressTarget, advance_p, classify_address};
 use ga_slots::Op;
 use ga_source::{AssemblyItem, AssemblyRequest, CellGroup, Operand, Program};
@@ -20,7 +20,7 @@ pub(crate) fn push_listed_program(
     program: &Program<'_>,
     lines: &mut FaultLines<'_, '_>,
 ) -> Result<(), AllocError>
-    ensures { OnOk result (Tells text.old.items text.new.items (lines_left lines.old) (lines_left lines.new)) }
+    ensures { OnOk result (IsListingExtended text.old.items text.new.items (fault_lines_left lines.old) (fault_lines_left lines.new)) }
 {
     lines.push_before(text, program.line)?;
     push_node(text, program.node)?;
@@ -36,7 +36,7 @@ fn push_program(
     program: &Program<'_>,
     lines: &mut FaultLines<'_, '_>,
 ) -> Result<(), AllocError>
-    ensures { OnOk result (Tells text.old.items text.new.items (lines_left lines.old) (lines_left lines.new)) }
+    ensures { OnOk result (IsListingExtended text.old.items text.new.items (fault_lines_left lines.old) (fault_lines_left lines.new)) }
 {
     let mut told = 0usize;
     for group in &program.groups {
@@ -57,14 +57,14 @@ fn push_labels(
     number: u32,
     lines: &mut FaultLines<'_, '_>,
 ) -> Result<usize, AllocError>
-    ensures { OnOk result (Tells text.old.items text.new.items (lines_left lines.old) (lines_left lines.new)) }
+    ensures { OnOk result (IsListingExtended text.old.items text.new.items (fault_lines_left lines.old) (fault_lines_left lines.new)) }
 {
     let mut told = first;
     for asked in program.asked.iter().skip(first) {
         if asked.line >= number {
             return Ok(told);
         }
-        if let AssemblyRequest::Mark(label) = asked.request {
+        if let AssemblyRequest::MarkLabel(label) = asked.request {
             push_label(text, program, label, asked.line, lines)?;
         }
         told = told.saturating_add(1);
@@ -81,7 +81,7 @@ fn push_label(
     number: u32,
     lines: &mut FaultLines<'_, '_>,
 ) -> Result<(), AllocError>
-    ensures { OnOk result (Tells text.old.items text.new.items (lines_left lines.old) (lines_left lines.new)) }
+    ensures { OnOk result (IsListingExtended text.old.items text.new.items (fault_lines_left lines.old) (fault_lines_left lines.new)) }
 {
     let Some(found) = program.names.get(label) else {
         return Ok(());
@@ -102,7 +102,7 @@ fn push_items(
     program: &Program<'_>,
     items: &[AssemblyItem],
 ) -> Result<(), AllocError>
-    ensures { OnOk result (Grows text.old.items text.new.items) }
+    ensures { OnOk result (IsTextExtended text.old.items text.new.items) }
 {
     for item in items {
         text.push(b' ')?;
@@ -120,7 +120,7 @@ fn push_literal(
     address: u32,
     value: Operand,
 ) -> Result<(), AllocError>
-    ensures { OnOk result (Grows text.old.items text.new.items) }
+    ensures { OnOk result (IsTextExtended text.old.items text.new.items) }
 {
     push_cell(text, chip, program.node, address)?;
     text.push(b' ')?;
@@ -137,7 +137,7 @@ fn push_literals(
     program: &Program<'_>,
     group: &CellGroup,
 ) -> Result<(), AllocError>
-    ensures { OnOk result (Grows text.old.items text.new.items) }
+    ensures { OnOk result (IsTextExtended text.old.items text.new.items) }
 {
     let mut p = advance_p(group.address);
     for item in &group.items {
@@ -158,7 +158,7 @@ fn push_group(
     group: &CellGroup,
     lines: &mut FaultLines<'_, '_>,
 ) -> Result<(), AllocError>
-    ensures { OnOk result (Tells text.old.items text.new.items (lines_left lines.old) (lines_left lines.new)) }
+    ensures { OnOk result (IsListingExtended text.old.items text.new.items (fault_lines_left lines.old) (fault_lines_left lines.new)) }
 {
     lines.push_before(text, group.line())?;
     push_cell(text, chip, program.node, group.address)?;
@@ -171,7 +171,7 @@ fn push_group(
 /// Adds a line of the source after a `\`.
 #[tactic(auto, using(crate::proofs::FaultListing::grows, crate::proofs::FaultListing::grows_none, crate::proofs::FaultListing::grows_both))]
 fn push_line(text: &mut Vec<u8>, line: &[u8]) -> Result<(), AllocError>
-    ensures { OnOk result (Grows text.old.items text.new.items) }
+    ensures { OnOk result (IsTextExtended text.old.items text.new.items) }
 {
     text.extend_from_slice(b" \\ ")?;
     text.extend_from_slice(line)?;
@@ -182,11 +182,11 @@ fn push_line(text: &mut Vec<u8>, line: &[u8]) -> Result<(), AllocError>
 /// Adds the address and the word of a cell.
 #[tactic(auto, using(crate::proofs::FaultListing::grows, crate::proofs::FaultListing::grows_none, crate::proofs::FaultListing::grows_both))]
 fn push_cell(text: &mut Vec<u8>, chip: &Chip, node: NodeId, address: u32) -> Result<(), AllocError>
-    ensures { OnOk result (Grows text.old.items text.new.items) }
+    ensures { OnOk result (IsTextExtended text.old.items text.new.items) }
 {
     let place = match classify_address(address) {
-        AddressTarget::Rom(cell) => Place::Rom(cell),
-        AddressTarget::Ram(cell) => Place::Ram(cell),
+        AddressTarget::Rom(cell) => NodePlace::Rom(cell),
+        AddressTarget::Ram(cell) => NodePlace::Ram(cell),
         _ => return Ok(()),
     };
     push_hex(text, address, 3)?;
@@ -202,12 +202,12 @@ fn push_item(
     program: &Program<'_>,
     item: AssemblyItem,
 ) -> Result<(), AllocError>
-    ensures { OnOk result (Grows text.old.items text.new.items) }
+    ensures { OnOk result (IsTextExtended text.old.items text.new.items) }
 {
     match item {
         AssemblyItem::Opcode(op) => text.extend_from_slice(op.name().as_bytes()),
         AssemblyItem::Literal(_) => text.extend_from_slice(Op::FetchP.name().as_bytes()),
-        AssemblyItem::Back(op, label) | AssemblyItem::Ahead(op, label) => {
+        AssemblyItem::JumpToEarlierLabel(op, label) | AssemblyItem::JumpToLaterLabel(op, label) => {
             text.extend_from_slice(op.name().as_bytes())?;
             text.push(b' ')?;
             push_target(text, program, label)
@@ -219,7 +219,7 @@ fn push_item(
 /// Adds a number in decimal and hexadecimal digits, or a label's name after an apostrophe.
 #[tactic(auto, using(crate::proofs::FaultListing::grows, crate::proofs::FaultListing::grows_none, crate::proofs::FaultListing::grows_both))]
 fn push_value(text: &mut Vec<u8>, program: &Program<'_>, value: Operand) -> Result<(), AllocError>
-    ensures { OnOk result (Grows text.old.items text.new.items) }
+    ensures { OnOk result (IsTextExtended text.old.items text.new.items) }
 {
     match value {
         Operand::Number(number) => {
@@ -236,7 +236,7 @@ fn push_value(text: &mut Vec<u8>, program: &Program<'_>, value: Operand) -> Resu
 /// Adds the name of a label, or its address where it has none.
 #[tactic(auto, using(crate::proofs::FaultListing::grows, crate::proofs::FaultListing::grows_none, crate::proofs::FaultListing::grows_both))]
 fn push_target(text: &mut Vec<u8>, program: &Program<'_>, label: usize) -> Result<(), AllocError>
-    ensures { OnOk result (Grows text.old.items text.new.items) }
+    ensures { OnOk result (IsTextExtended text.old.items text.new.items) }
 {
     if let Some(found) = program.names.get(label) {
         if !found.name.is_empty() {

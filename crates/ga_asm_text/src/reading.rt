@@ -2,11 +2,11 @@
 ghost use Rattle.std.specs.Prelude.{◌≡◌, ◌++◌, Some, IfOk, IfErr};
 ghost use Rattle.ga_text.specs.Lines.{Bytes};
 ghost use Rattle.ga_text.specs.Output.{IsWholeImageText};
-ghost use Rattle.ga_asm_text.specs.inner.{IsUnread};
+ghost use Rattle.ga_asm_text.specs.inner.{IsUnreadSourceStatus};
 
 use ga_console::Status;
 use ga_debug_info::{report_input_too_long, report_out_of_memory};
-use ga_text::{WholeRead, read_whole_input};
+use ga_text::{WholeInputResult, read_whole_input};
 use std::alloc::Global;
 use std::io::{Read, Write};
 
@@ -19,16 +19,16 @@ pub(crate) fn read_source<R: Read, E: Write>(
 ) -> Result<Vec<u8>, Status>
     ensures { (left : Bytes) → R.remaining reader.old ≡ Some left →
         (read rest : Bytes) × (left ≡ read ++ rest) × (R.remaining reader.new ≡ Some rest)
-        × IfOk result (λ source. IsWholeImageText read rest source.items) × IfErr result (IsUnread read) }
+        × IfOk result (λ source. IsWholeImageText read rest source.items) × IfErr result (IsUnreadSourceStatus read) }
 {
     match read_whole_input(alloc, reader) {
-        WholeRead::Whole(source) => Ok(source),
-        WholeRead::TooLong(_) => {
+        WholeInputResult::Whole(source) => Ok(source),
+        WholeInputResult::TooLong(_) => {
             let _written = report_input_too_long(errors);
             Err(Status::ImageRefused)
         }
-        WholeRead::ReadFailed => Err(Status::StreamFault),
-        WholeRead::NoMemory => {
+        WholeInputResult::ReadFailed => Err(Status::StreamFault),
+        WholeInputResult::NoMemory => {
             let _written = report_out_of_memory(errors);
             Err(Status::ImageRefused)
         }

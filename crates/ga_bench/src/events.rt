@@ -11,10 +11,10 @@ fn sum_kinds(node: &mut Node, count: u32) -> u32 {
     let mut sum = 0u32;
     let mut saved = Saved::new();
     for _ in 0..count {
-        if node.not_ready().is_none() {
+        if node.own_event_refusal().is_none() {
             saved = Saved::new();
-            let due = node.due();
-            if let OwnEventKind::Run(code) = node.execute_logged(
+            let due = node.due_action();
+            if let OwnEventKind::Run(code) = node.execute_action_logged(
                 due,
                 SeenNeighbours::no_neighbours(),
                 &mut saved,
@@ -32,10 +32,10 @@ fn sum_kinds(node: &mut Node, count: u32) -> u32 {
 fn sum_backs(node: &mut Node, count: u32) -> u32 {
     let mut sum = 0u32;
     for _ in 0..count {
-        if node.not_ready().is_none() {
+        if node.own_event_refusal().is_none() {
             let mut saved = Saved::new();
-            let due = node.due();
-            let _ = node.execute_logged(due, SeenNeighbours::no_neighbours(), &mut saved);
+            let due = node.due_action();
+            let _ = node.execute_action_logged(due, SeenNeighbours::no_neighbours(), &mut saved);
             node.restore(&saved);
         }
         if let Ok((OwnEventKind::Run(code), _)) = node.own(SeenNeighbours::no_neighbours()) {

@@ -4,7 +4,7 @@
 //! Timed, by the best of the rounds:
 //!
 //! - `busy-into EVENTS ROUNDS`, `busy-back`, `mixed-into` and `mixed-back`: events of a node
-//! - `lab CHIP_NODES STEPS`: steps of the first nodes of a lab in turn, all undone and made again; `lab-inlined` makes them by
+//! - `lab CHIP_NODE_COUNT STEPS`: steps of the first nodes of a lab in turn, all undone and made again; `lab-inlined` makes them by
 //!   `Lab::step_inlined`
 //! - `rewind EVENTS ROUNDS`: rollbacks that remove three entries from a history of EVENTS events; `foretell` queries what they
 //!   would remove
@@ -29,7 +29,7 @@ mod shared;
 use events::time_events;
 use ga_lab::Lab;
 use labs::{LabOperation, lab_of_adders, time_lab_operations};
-use programs::{ADDING_LOOP, MIXED_OPCODES};
+use programs::{ADDING_LOOP, MIXED_OPCODES_PROGRAM};
 use refused::{print_outcome, run_with_failed_allocation};
 use rewinds::{
     RollbackCase, lab_after_transfers, lab_before_look, lab_with_late_transfer, time_rollback,
@@ -74,15 +74,15 @@ fn is_timed(rt: &HostRuntime, name: &str, count: u32, rounds: u32) -> io::Result
     match name {
         "busy-into" => print_events(rt, ADDING_LOOP, false, count, rounds)?,
         "busy-back" => print_events(rt, ADDING_LOOP, true, count, rounds)?,
-        "mixed-into" => print_events(rt, MIXED_OPCODES, false, count, rounds)?,
-        "mixed-back" => print_events(rt, MIXED_OPCODES, true, count, rounds)?,
+        "mixed-into" => print_events(rt, MIXED_OPCODES_PROGRAM, false, count, rounds)?,
+        "mixed-back" => print_events(rt, MIXED_OPCODES_PROGRAM, true, count, rounds)?,
         "lab" => print_lab(rt, nodes, rounds, LabOperation::Step)?,
         "lab-inlined" => print_lab(rt, nodes, rounds, LabOperation::StepInlined)?,
         "rewind" | "foretell" => {
             print_rollback(
                 rt,
                 lab_after_transfers(alloc, count),
-                RollbackCase::Pairs,
+                RollbackCase::PairTransfers,
                 rounds,
                 is_done,
             )?
@@ -91,7 +91,7 @@ fn is_timed(rt: &HostRuntime, name: &str, count: u32, rounds: u32) -> io::Result
             print_rollback(
                 rt,
                 lab_with_late_transfer(alloc, count),
-                RollbackCase::Word,
+                RollbackCase::OneTransfer,
                 rounds,
                 is_done,
             )?
@@ -99,12 +99,12 @@ fn is_timed(rt: &HostRuntime, name: &str, count: u32, rounds: u32) -> io::Result
         "rewind-all" => print_rollback(
             rt,
             lab_after_transfers(alloc, count),
-            RollbackCase::All,
+            RollbackCase::AllOfLastNode,
             1,
             is_done,
         )?,
         "rewind-looks" => {
-            let looks = RollbackCase::Looks(count);
+            let looks = RollbackCase::LaterLooks(count);
             print_rollback(rt, lab_before_look(alloc), looks, rounds, is_done)?
         }
         _ => return Ok(false),

@@ -16,7 +16,7 @@ const ANSWERS: &[u8] =
     b"Content-Length: 91\r\n\r\n{\"body\":\"a body\",\"command\":\"next\",\"request_seq\":1,\"seq\":1,\"success\":true,\"type\":\"response\"}Content-Length: 75\r\n\r\n{\"command\":\"next\",\"request_seq\":1,\"seq\":2,\"success\":true,\"type\":\"response\"}Content-Length: 141\r\n\r\n{\"body\":{\"error\":{\"format\":\"no node\",\"id\":1}},\"command\":\"next\",\"message\":\"no node\",\"request_seq\":1,\"seq\":3,\"success\":false,\"type\":\"response\"}Content-Length: 58\r\n\r\n{\"body\":\"a body\",\"event\":\"stopped\",\"seq\":4,\"type\":\"event\"}Content-Length: 46\r\n\r\n{\"event\":\"initialized\",\"seq\":5,\"type\":\"event\"}";
 
 /// A request that is read and answered in each way.
-pub fn messages(alloc: Global) -> RunOutcome {
+pub fn run_client_requests(alloc: Global) -> RunOutcome {
     let mut inbox = Inbox::new(alloc);
     let mut reader = REQUEST;
     let (taken, first) = match inbox.next(&mut reader) {
@@ -40,7 +40,7 @@ pub fn messages(alloc: Global) -> RunOutcome {
     let mut outbox = Outbox::new(alloc);
     let third = answered(alloc, &request, &mut outbox);
     if outbox.bytes() == ANSWERS {
-        first.and(second).and(third)
+        first.combine_outcomes(second).combine_outcomes(third)
     } else {
         RunOutcome::Wrong("other answers")
     }
@@ -67,7 +67,7 @@ fn answered(alloc: Global, request: &ClientRequest, outbox: &mut Outbox) -> RunO
     ];
     let mut outcome = RunOutcome::Answered;
     for way in ways {
-        outcome = outcome.and(sent(alloc, request, outbox, way));
+        outcome = outcome.combine_outcomes(sent(alloc, request, outbox, way));
     }
     outcome
 }

@@ -4,8 +4,8 @@
 //! number of allocations before the run is chosen so that this is the run's. A run is over only if the failing allocation is
 //! still ahead, so an allocation that is added later, or a failure that nobody reports, changes a line.
 
-use crate::causes::causes;
-use crate::messages::messages;
+use crate::causes::run_chain_query;
+use crate::messages::run_client_requests;
 use crate::shared::{run_one_worker_race, run_shared_calls};
 use std::alloc::Global;
 use std::io;
@@ -23,14 +23,14 @@ pub enum RunOutcome {
     /// This alone was refused for want of memory. It changed nothing, and was answered when it was asked for again.
     Refused(&'static str),
     /// This, with its number, alone was refused for want of memory. It changed nothing, and was answered when it was asked for again.
-    RefusedAt(&'static str, usize),
+    RefusedWithNumber(&'static str, usize),
     /// This is not as it should be.
     Wrong(&'static str),
 }
 
 impl RunOutcome {
     /// How two parts of a run came out. Only one of them may be refused.
-    pub fn and(self, other: RunOutcome) -> RunOutcome {
+    pub fn combine_outcomes(self, other: RunOutcome) -> RunOutcome {
         match (self, other) {
             (RunOutcome::Wrong(what), _) => RunOutcome::Wrong(what),
             (_, RunOutcome::Wrong(what)) => RunOutcome::Wrong(what),
@@ -44,8 +44,8 @@ impl RunOutcome {
 /// Makes the run of this name.
 fn run_of<R: Threads + Wait + Sync>(rt: &R, alloc: Global, run: &str) -> RunOutcome {
     match run {
-        "causes" => causes(alloc),
-        "messages" => messages(alloc),
+        "causes" => run_chain_query(alloc),
+        "messages" => run_client_requests(alloc),
         "shared" => run_shared_calls(rt, alloc, true),
         "shared-broken-off" => run_shared_calls(rt, alloc, false),
         "race" => run_one_worker_race(rt, alloc),
@@ -90,7 +90,7 @@ pub fn print_outcome(
 ) -> io::Result<()> {
     match outcome {
         RunOutcome::Refused(what) if !is_ahead => println!(rt; "refused: {what}"),
-        RunOutcome::RefusedAt(what, number) if !is_ahead => {
+        RunOutcome::RefusedWithNumber(what, number) if !is_ahead => {
             println!(rt; "refused: {what}, number {number}")
         }
         RunOutcome::Answered if is_ahead => println!(rt; "no growth is left"),

@@ -1,6 +1,8 @@
 //! Rollbacks of a lab.
 
-use crate::programs::{IO_READER, JUMP, RECEIVER, SENDER, load_program};
+use crate::programs::{
+    IO_READER_PROGRAM, JUMP_PROGRAM, RECEIVER_PROGRAM, SENDER_PROGRAM, load_program,
+};
 use ga_grid::{Chip, NodeId};
 use ga_lab::Lab;
 use std::alloc::Global;
@@ -26,10 +28,10 @@ fn steps(lab: &mut Lab, node: NodeId, count: u32) -> u32 {
 pub fn lab_after_transfers(alloc: Global, own: u32) -> Option<Lab> {
     let mut chip = Chip::new(alloc).ok()?;
     for pair in 0..PAIRS {
-        load_program(chip.node_mut(NodeId::new(2 * pair)), SENDER);
-        load_program(chip.node_mut(NodeId::new(2 * pair + 1)), RECEIVER);
+        load_program(chip.node_mut(NodeId::new(2 * pair)), SENDER_PROGRAM);
+        load_program(chip.node_mut(NodeId::new(2 * pair + 1)), RECEIVER_PROGRAM);
     }
-    load_program(chip.node_mut(NodeId::new(143)), JUMP);
+    load_program(chip.node_mut(NodeId::new(143)), JUMP_PROGRAM);
     let mut lab = Lab::new(alloc, chip, u32::MAX).ok()?;
     if steps(&mut lab, NodeId::new(143), own) < own {
         return None;
@@ -44,8 +46,8 @@ pub fn lab_after_transfers(alloc: Global, own: u32) -> Option<Lab> {
 /// A lab in which node 001 has fetched, and node 000 has come to where its next step posts a wait.
 pub fn lab_before_look(alloc: Global) -> Option<Lab> {
     let mut chip = Chip::new(alloc).ok()?;
-    load_program(chip.node_mut(NodeId::new(0)), SENDER);
-    load_program(chip.node_mut(NodeId::new(1)), IO_READER);
+    load_program(chip.node_mut(NodeId::new(0)), SENDER_PROGRAM);
+    load_program(chip.node_mut(NodeId::new(1)), IO_READER_PROGRAM);
     let mut lab = Lab::new(alloc, chip, u32::MAX).ok()?;
     let _fetched = steps(&mut lab, NodeId::new(1), 1);
     let _sent = steps(&mut lab, NodeId::new(0), 6);
@@ -62,7 +64,7 @@ pub fn lab_with_late_transfer(alloc: Global, count: u32) -> Option<Lab> {
     let mut chip = Chip::new(alloc).ok()?;
     load_program(chip.node_mut(NodeId::new(0)), &sender);
     load_program(chip.node_mut(NodeId::new(1)), &taker);
-    load_program(chip.node_mut(NodeId::new(18)), IO_READER);
+    load_program(chip.node_mut(NodeId::new(18)), IO_READER_PROGRAM);
     let mut lab = Lab::new(alloc, chip, u32::MAX).ok()?;
     let own = count.saturating_mul(4);
     let looked = steps(&mut lab, NodeId::new(18), own);
@@ -78,13 +80,13 @@ pub fn lab_with_late_transfer(alloc: Global, count: u32) -> Option<Lab> {
 #[derive(Clone, Copy)]
 pub enum RollbackCase {
     /// The word of each pair, with the wait to send it: three entries of two nodes.
-    Pairs,
+    PairTransfers,
     /// The word of node 000 and the wait to send it.
-    Word,
+    OneTransfer,
     /// A wait of node 000 and this number of later looks of node 001 at it, with the `unext` after each three of them.
-    Looks(u32),
+    LaterLooks(u32),
     /// All that the last node made.
-    All,
+    AllOfLastNode,
 }
 
 /// Takes a step of a node back, or asks what that would take: the events that go.
@@ -111,16 +113,16 @@ fn taken_of_pairs(lab: &mut Lab, is_done: bool) -> u32 {
 #[inline(never)]
 fn go(lab: &mut Lab, goes: RollbackCase, wait: u32, is_done: bool) -> u32 {
     match goes {
-        RollbackCase::Pairs => taken_of_pairs(lab, is_done),
-        RollbackCase::Word => taken(lab, NodeId::new(0), wait, is_done),
-        RollbackCase::Looks(_) => taken(lab, NodeId::new(0), 7, is_done),
-        RollbackCase::All => taken(lab, NodeId::new(143), 1, is_done),
+        RollbackCase::PairTransfers => taken_of_pairs(lab, is_done),
+        RollbackCase::OneTransfer => taken(lab, NodeId::new(0), wait, is_done),
+        RollbackCase::LaterLooks(_) => taken(lab, NodeId::new(0), 7, is_done),
+        RollbackCase::AllOfLastNode => taken(lab, NodeId::new(143), 1, is_done),
     }
 }
 
 /// Makes the looks that are to go.
 fn look(lab: &mut Lab, goes: RollbackCase) {
-    if let RollbackCase::Looks(looks) = goes {
+    if let RollbackCase::LaterLooks(looks) = goes {
         let _waits = steps(lab, NodeId::new(0), 1);
         let _looked = steps(lab, NodeId::new(1), looks.saturating_add(looks / 3));
     }
@@ -129,12 +131,12 @@ fn look(lab: &mut Lab, goes: RollbackCase) {
 /// Passes again what went.
 fn pass_again(lab: &mut Lab, goes: RollbackCase) {
     match goes {
-        RollbackCase::Pairs => {
+        RollbackCase::PairTransfers => {
             for pair in 0..PAIRS {
                 let _made = steps(lab, NodeId::new(2 * pair), 2);
             }
         }
-        RollbackCase::Word => {
+        RollbackCase::OneTransfer => {
             let _made = steps(lab, NodeId::new(0), 2);
         }
         _ => {}
@@ -162,7 +164,7 @@ pub fn time_rollback(
         }
     }
     Ok(match goes {
-        RollbackCase::Pairs => (best / u128::from(PAIRS), removed),
+        RollbackCase::PairTransfers => (best / u128::from(PAIRS), removed),
         _ => (best, removed),
     })
 }

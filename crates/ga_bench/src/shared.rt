@@ -2,13 +2,14 @@
 
 ghost use Rattle.std.specs.Prelude.{◌≡◌, ◌<◌, ◌^◌, All, IfOk, vec_len};
 
-use crate::programs::{SENDER, load_program};
+use crate::programs::{SENDER_PROGRAM, load_program};
 use crate::refused::RunOutcome;
-use ga_grid::{Chip, Memory, NodeId};
-use ga_lab::Made;
+use ga_grid::{Chip, NodeId, OutOfMemoryError};
+use ga_lab::MadeEvent;
 use ga_node::OwnEventKind;
 use ga_shared::{
-    Call, CallAnswer, ClosedLab, OpenGate, RaceFault, Receipt, SharedChip, WorkerSeat, race,
+    Call, CallAnswer, CallReceipt, NoEffectCallHooks, SharedLab, UnsharedLab, WorkerRaceFault,
+    WorkerSeat, race,
 };
 use std::alloc::{AllocError, Global};
 use std::marker::Brand;
@@ -23,9 +24,9 @@ const LIMIT: u32 = 1_000_000;
 const CALLS: usize = 9;
 
 /// A chip whose node 000 sends a word to the right.
-fn linked(alloc: Global) -> Result<Chip, Memory> {
+fn linked(alloc: Global) -> Result<Chip, OutOfMemoryError> {
     let mut chip = Chip::new(alloc)?;
-    load_program(chip.node_mut(NodeId::new(0)), SENDER);
+    load_program(chip.node_mut(NodeId::new(0)), SENDER_PROGRAM);
     Ok(chip)
 }
 
@@ -62,7 +63,7 @@ static MADE: [u64; 10] = [0, 1, 2, 3, 4, 4, 5, 6, 6, 6];
 
 fn made(step: u32, kind: OwnEventKind) -> CallAnswer {
     let node = NodeId::new(0);
-    CallAnswer::Made(Made::Own { node, step, kind })
+    CallAnswer::Made(MadeEvent::Own { node, step, kind })
 }
 
 /// The calls and then the closing. After an allocation failure a call is repeated, or no call follows it.
@@ -78,7 +79,7 @@ fn opened<L: Ledger, R: Wait>(rt: &R, alloc: Global, blank: Blank, goes_on: bool
     let Ok(chip) = linked(alloc) else {
         return RunOutcome::Refused("chip");
     };
-    let Ok((shared, mut seats)) = SharedChip::<L>::new(alloc, blank, chip, LIMIT, 1) else {
+    let Ok((shared, mut seats)) = SharedLab::<L>::new(alloc, blank, chip, LIMIT, 1) else {
         return RunOutcome::Refused("new");
     };
     let Some(seat) = seats.first_mut() else {
@@ -86,7 +87,7 @@ fn opened<L: Ledger, R: Wait>(rt: &R, alloc: Global, blank: Blank, goes_on: bool
     };
     let (count, outcome) = called(rt, &shared, seat, goes_on);
     match shared.close(seats) {
-        Ok(closed) => outcome.and(is_closed(&closed, count)),
+        Ok(closed) => outcome.combine_outcomes(is_closed(&closed, count)),
         Err(_) => RunOutcome::Wrong("not closed"),
     }
 }
@@ -94,13 +95,13 @@ fn opened<L: Ledger, R: Wait>(rt: &R, alloc: Global, blank: Blank, goes_on: bool
 /// Makes the calls, and says how many were made.
 fn called<L: Ledger, R: Wait>(
     rt: &R,
-    shared: &SharedChip<L>,
+    shared: &SharedLab<L>,
     seat: &mut WorkerSeat<L>,
     goes_on: bool,
 ) -> (usize, RunOutcome) {
     let mut outcome = RunOutcome::Answered;
     for (place, (call, answer)) in calls().iter().zip(&answers()).enumerate() {
-        let wanted = Receipt {
+        let wanted = CallReceipt {
             place: place as u64,
             call: *call,
             answer: *answer,
@@ -112,7 +113,10 @@ fn called<L: Ledger, R: Wait>(
             Some(receipt) if receipt == wanted => {}
             Some(_) => return (place, RunOutcome::Wrong("another receipt")),
             None => {
-                outcome = outcome.and(RunOutcome::RefusedAt("call", place + 1));
+                outcome = outcome.combine_outcomes(RunOutcome::RefusedWithNumber(
+                    "call",
+                    place + 1,
+                ));
                 if !goes_on {
                     return (place, outcome);
                 }
@@ -128,10 +132,10 @@ fn called<L: Ledger, R: Wait>(
 /// Makes a call; none where memory was refused.
 fn make<L: Ledger, R: Wait>(
     rt: &R,
-    shared: &SharedChip<L>,
+    shared: &SharedLab<L>,
     seat: &mut WorkerSeat<L>,
     call: Call,
-) -> Option<Receipt> {
+) -> Option<CallReceipt> {
     match call {
         Call::Step(node) => shared.step(rt, seat, node).ok(),
         Call::Rewind(node, step) => shared.rewind(rt, seat, node, step).ok(),
@@ -139,7 +143,7 @@ fn make<L: Ledger, R: Wait>(
 }
 
 /// Whether the log is that of `count` calls, and the lab the one after them.
-fn is_closed(closed: &ClosedLab, count: usize) -> RunOutcome {
+fn is_closed(closed: &UnsharedLab, count: usize) -> RunOutcome {
     let calls = calls();
     let answers = answers();
     let wanted = calls.iter().zip(&answers).take(count);
@@ -168,11 +172,11 @@ pub fn run_one_worker_race<R: Threads + Wait + Sync>(rt: &R, alloc: Global) -> R
     let Ok(lists) = one_list(alloc) else {
         return RunOutcome::Refused("list of calls");
     };
-    match race(rt, alloc, chip, LIMIT, lists, &OpenGate) {
+    match race(rt, alloc, chip, LIMIT, lists, &NoEffectCallHooks) {
         Ok(closed) => is_closed(&closed, CALLS),
-        Err(RaceFault::Memory) => RunOutcome::Refused("race, for want of memory"),
-        Err(RaceFault::NotStarted) => RunOutcome::Refused("race, not started"),
-        Err(RaceFault::Disagree) => RunOutcome::Wrong("a race that disagrees"),
+        Err(WorkerRaceFault::Memory) => RunOutcome::Refused("race, for want of memory"),
+        Err(WorkerRaceFault::NotStarted) => RunOutcome::Refused("race, not started"),
+        Err(WorkerRaceFault::LogDisagrees) => RunOutcome::Wrong("a race that disagrees"),
     }
 }
 

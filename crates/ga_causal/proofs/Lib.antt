@@ -2,7 +2,7 @@ pub mod Runs
 pub mod Exact
 pub mod Largest
 pub mod Rollbacks
-pub mod Oldest
+pub mod OldestEventPlaces
 pub mod ChainOf
 pub mod Places
 pub mod Equivalences

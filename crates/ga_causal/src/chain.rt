@@ -1,15 +1,15 @@
 //! Chains of direct dependence.
 
 ghost use Rattle.std.specs.Prelude.{◌≡◌, ◌≢◌, ◌↔◌, ◌<◌, ◌≤◌, ◌+◌, ◌^◌, true, false, List, length, map, drop, slice_get, slice_index_or, IfOk, IsTrue, [], ◌∷◌};
-ghost use Rattle.ga_event.specs.declared.event.Cause.{Cause};
+ghost use Rattle.ga_event.specs.declared.event.EventWithLook.{EventWithLook};
 ghost use Rattle.ga_causal.specs.Dependence.{dependent_flags};
-ghost use Rattle.ga_causal.specs.inner.{first_at, IsFirsts};
-ghost use Rattle.ga_causal.specs.Chains.{IsChain, IsChainTo, IsChainAnswer, IsNextLink};
+ghost use Rattle.ga_causal.specs.inner.{oldest_place_of_node, AreOldestEventPlaces};
+ghost use Rattle.ga_causal.specs.Chains.{IsChain, IsChainTo, IsChainAnswer, IsNextChainLink};
 
 use crate::firsts::Firsts;
 use crate::rule::rule;
-use ga_event::Cause;
-use ga_grid::Memory;
+use ga_event::EventWithLook;
+use ga_grid::OutOfMemoryError;
 use std::alloc::Global;
 use std::marker::Model;
 
@@ -17,7 +17,7 @@ use std::marker::Model;
 /// link before, 0 for the first link. Rule 1 is that of two own events of one node, rule 2 that of a pass and an event that touch
 /// a common node, and rule 3, where neither holds, that of a look at a node that the event before touches.
 #[derive(Clone, Copy, PartialEq, Eq, Debug)]
-pub struct Link {
+pub struct ChainLink {
     pub place: u32,
     pub rule: u8,
 }
@@ -25,35 +25,35 @@ pub struct Link {
 /// A list of links.
 #[derive(Debug, Drop)]
 pub struct Chain {
-    links: Vec<Link>,
+    links: Vec<ChainLink>,
 }
 
 impl Model for Chain {
     ghost use Rattle.std.specs.Prelude.{List};
-    ghost use Rattle.ga_causal.specs.declared.chain.Link.{Link};
+    ghost use Rattle.ga_causal.specs.declared.chain.ChainLink.{ChainLink};
 
-    ghost Value = { List Link };
+    ghost Value = { List ChainLink };
 
     ghost view = { λ c. c.links.items };
 }
 
 impl Chain {
     /// A chain of these links, the first of them first.
-    pub fn new(links: Vec<Link>) -> Self
+    pub fn new(links: Vec<ChainLink>) -> Self
         ensures { result ≡ links.items }
     {
         Chain { links }
     }
 
     /// The links, the first of them first.
-    pub fn links(&self) -> &[Link]
+    pub fn links(&self) -> &[ChainLink]
         ensures { result.now ≡ self.now }
     {
         self.links.as_slice()
     }
 
     /// The places of the links, in their order.
-    pub fn places(&self) -> Result<Vec<u32>, Memory>
+    pub fn places(&self) -> Result<Vec<u32>, OutOfMemoryError>
         ensures { IfOk result (λ list. list.items ≡ map (λ link. link.place) self.now) }
     {
         let links = self.links();
@@ -66,7 +66,7 @@ impl Chain {
     }
 
     /// The link at an index, 0 for the first.
-    pub fn get(&self, index: usize) -> Option<Link>
+    pub fn get(&self, index: usize) -> Option<ChainLink>
         ensures { result ≡ slice_get self.now index }
     {
         self.links().get(index).copied()
@@ -90,19 +90,19 @@ impl Chain {
 // The chain to an event that depends on the one at `from`, made from its end.
 fn chain_back(
     alloc: Global,
-    events: &[Cause],
+    events: &[EventWithLook],
     skipped: u32,
     firsts: &Firsts,
     from: u32,
     to: u32,
-) -> Result<Chain, Memory>
+) -> Result<Chain, OutOfMemoryError>
     requires from { from < length events.now }
     requires to { to < length events.now }
     requires fits { skipped + to < 2 ^ 32 }
-    requires firsts { IsFirsts events.now from to to (first_at firsts.now) }
+    requires firsts { AreOldestEventPlaces events.now from to to (oldest_place_of_node firsts.now) }
     requires none { firsts.now.none ≡ to }
     requires dependent { slice_index_or (dependent_flags events.now from) to false ≡ true }
-    ensures { IfOk result (λ chain. (all : List Cause) → drop skipped all ≡ events.now →
+    ensures { IfOk result (λ chain. (all : List EventWithLook) → drop skipped all ≡ events.now →
         IsChainTo all (skipped + from) (skipped + to) chain) }
 {
     let mut links = Vec::new(alloc);
@@ -110,13 +110,13 @@ fn chain_back(
     while at != from {
         let event = &events[at as usize];
         let before = firsts.oldest(event);
-        links.push(Link {
+        links.push(ChainLink {
             place: skipped + at,
             rule: rule(&events[before as usize], event),
         })?;
         at = before;
     }
-    links.push(Link {
+    links.push(ChainLink {
         place: skipped + from,
         rule: 0,
     })?;
@@ -125,11 +125,11 @@ fn chain_back(
 }
 
 // The chain from an event to itself.
-fn chain_alone(alloc: Global, place: u32) -> Result<Chain, Memory>
+fn chain_alone(alloc: Global, place: u32) -> Result<Chain, OutOfMemoryError>
     ensures { IfOk result (λ chain. chain ≡ record { place = place; rule = 0 } ∷ []) }
 {
     let mut links = Vec::new(alloc);
-    links.push(Link { place, rule: 0 })?;
+    links.push(ChainLink { place, rule: 0 })?;
     Ok(Chain { links })
 }
 
@@ -138,30 +138,30 @@ fn chain_alone(alloc: Global, place: u32) -> Result<Chain, Memory>
 /// Walks once over the events between the two, and then back over those of the chain. Places count from 0.
 pub fn find_chain(
     alloc: Global,
-    events: &[Cause],
+    events: &[EventWithLook],
     from: u32,
     to: u32,
-) -> Result<Option<Chain>, Memory>
+) -> Result<Option<Chain>, OutOfMemoryError>
     requires from { from < length events.now }
     requires to { to < length events.now }
     ensures { IfOk result (IsChainAnswer events.now from to) }
 {
-    find_later_chain(alloc, events, 0, from, to)
+    find_chain_after_skipped_events(alloc, events, 0, from, to)
 }
 
 /// Does what `find_chain` does, in the last events of a list, without those before them: as many as `skipped`. `from` and `to`
 /// count from the first of the last events on, and the links give places of the whole list. What was skipped is in no chain.
-pub fn find_later_chain(
+pub fn find_chain_after_skipped_events(
     alloc: Global,
-    events: &[Cause],
+    events: &[EventWithLook],
     skipped: u32,
     from: u32,
     to: u32,
-) -> Result<Option<Chain>, Memory>
+) -> Result<Option<Chain>, OutOfMemoryError>
     requires from { from < length events.now }
     requires to { to < length events.now }
     requires fits { skipped + to < 2 ^ 32 }
-    ensures { IfOk result (λ answer. (all : List Cause) → drop skipped all ≡ events.now →
+    ensures { IfOk result (λ answer. (all : List EventWithLook) → drop skipped all ≡ events.now →
         IsChainAnswer all (skipped + from) (skipped + to) answer) }
 {
     if to < from {
@@ -180,9 +180,9 @@ pub fn find_later_chain(
 }
 
 // Whether the link may follow the event at the place before.
-fn is_next(events: &[Cause], before: u32, link: &Link) -> bool
+fn is_next(events: &[EventWithLook], before: u32, link: &ChainLink) -> bool
     requires { before < length events.now }
-    ensures { IsTrue result ↔ IsNextLink events.now before link.now }
+    ensures { IsTrue result ↔ IsNextChainLink events.now before link.now }
 {
     if before >= link.place || link.place as usize >= events.len() {
         return false;
@@ -193,7 +193,7 @@ fn is_next(events: &[Cause], before: u32, link: &Link) -> bool
 
 /// Whether the links are a chain: at least one, all of them places of the list, the first with rule 0 and each other one with
 /// the rule by which its event depends directly on the one before.
-pub fn is_chain(events: &[Cause], chain: &Chain) -> bool
+pub fn is_chain(events: &[EventWithLook], chain: &Chain) -> bool
     ensures { IsTrue result ↔ IsChain events.now chain.now }
 {
     let links = chain.links.as_slice();

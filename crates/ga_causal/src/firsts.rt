@@ -1,13 +1,13 @@
 //! Of each node the oldest event that touches it, among those that depend on one of a list.
 
 ghost use Rattle.std.specs.Prelude.{◌≡◌, ◌<◌, ◌≤◌, ◌≢◌, ◌==◌, ◌+◌, ℕ, length, min, if◌then◌else◌};
-ghost use Rattle.ga_grid.specs.Grid.{neighbour_of};
-ghost use Rattle.ga_event.specs.Touches.{neighbours, observed_by};
-ghost use Rattle.ga_causal.specs.Dependence.{cause_touches};
-ghost use Rattle.ga_causal.specs.inner.{first_at, least, least_with, IsFirsts};
+ghost use Rattle.ga_grid.specs.Grid.{neighbour_number};
+ghost use Rattle.ga_event.specs.Touches.{neighbours_of_node, nodes_observed_by_event};
+ghost use Rattle.ga_causal.specs.Dependence.{event_with_look_touches_node};
+ghost use Rattle.ga_causal.specs.inner.{oldest_place_of_node, least, least_of_place_and_node_place, AreOldestEventPlaces};
 
-use ga_event::{Cause, Event};
-use ga_grid::{CHIP_NODES, NodeId, neighbour};
+use ga_event::{Event, EventWithLook};
+use ga_grid::{CHIP_NODE_COUNT, NodeId, neighbour};
 use ga_ports::Side;
 use std::marker::Model;
 
@@ -20,9 +20,9 @@ pub(crate) struct Firsts {
 
 impl Model for Firsts {
     ghost use Rattle.std.specs.Prelude.{◌≡◌, ℕ, List, length};
-    ghost use Rattle.ga_causal.specs.inner.{Oldest};
+    ghost use Rattle.ga_causal.specs.inner.{OldestEventPlaces};
 
-    ghost Value = { Oldest };
+    ghost Value = { OldestEventPlaces };
 
     ghost view = { λ f. record { places = f.places; none = f.none } };
 
@@ -31,20 +31,20 @@ impl Model for Firsts {
 
 impl Firsts {
     fn new(none: u32) -> Self
-        ensures places { (n : ℕ) → first_at result n ≡ none }
+        ensures places { (n : ℕ) → oldest_place_of_node result n ≡ none }
         ensures none { result.none ≡ none }
     {
         Firsts {
-            places: [none; CHIP_NODES],
+            places: [none; CHIP_NODE_COUNT],
             none,
         }
     }
 
     /// Notes the events below `to` that depend on the one at `from`.
-    pub(crate) fn of(events: &[Cause], from: u32, to: u32) -> Self
+    pub(crate) fn of(events: &[EventWithLook], from: u32, to: u32) -> Self
         requires order { from < to }
         requires within { to < length events.now }
-        ensures firsts { IsFirsts events.now from to to (first_at result) }
+        ensures firsts { AreOldestEventPlaces events.now from to to (oldest_place_of_node result) }
         ensures none { result.none ≡ to }
     {
         let mut firsts = Firsts::new(to);
@@ -59,9 +59,9 @@ impl Firsts {
     }
 
     /// The oldest place noted at the nodes that the event sees.
-    #[tactic(auto, unfolding(ga_event::specs::Touches::observed_by))]
-    pub(crate) fn oldest(&self, event: &Cause) -> u32
-        ensures { result ≡ least (first_at self.now) self.now.none (observed_by event.now) }
+    #[tactic(auto, unfolding(ga_event::specs::Touches::nodes_observed_by_event))]
+    pub(crate) fn oldest(&self, event: &EventWithLook) -> u32
+        ensures { result ≡ least (oldest_place_of_node self.now) self.now.none (nodes_observed_by_event event.now) }
     {
         match event.event {
             Event::Own(node) => {
@@ -79,9 +79,9 @@ impl Firsts {
     }
 
     // The oldest place noted at the neighbours of a node.
-    #[tactic(auto, using(crate::proofs::Oldest::least_neighbours))]
+    #[tactic(auto, using(crate::proofs::OldestEventPlaces::least_neighbours))]
     fn oldest_beside(&self, node: NodeId) -> u32
-        ensures { result ≡ least (first_at self.now) self.now.none (neighbours node.number) }
+        ensures { result ≡ least (oldest_place_of_node self.now) self.now.none (neighbours_of_node node.number) }
     {
         let up = self.with_beside(node, Side::Up, self.none);
         let left = self.with_beside(node, Side::Left, up);
@@ -91,7 +91,7 @@ impl Firsts {
 
     // The older of a place and the one at the neighbour on a side.
     fn with_beside(&self, node: NodeId, side: Side, place: u32) -> u32
-        ensures { result ≡ least_with (first_at self.now) (neighbour_of node.number side) place }
+        ensures { result ≡ least_of_place_and_node_place (oldest_place_of_node self.now) (neighbour_number node.number side) place }
     {
         match neighbour(node, side) {
             Some(other) => self.places[other.index()].min(place),
@@ -99,9 +99,9 @@ impl Firsts {
         }
     }
 
-    fn note(&mut self, event: &Cause, place: u32)
-        ensures places { (n : ℕ) → first_at self.new n
-            ≡ (if cause_touches event.now n then min (first_at self.old n) place else first_at self.old n) }
+    fn note(&mut self, event: &EventWithLook, place: u32)
+        ensures places { (n : ℕ) → oldest_place_of_node self.new n
+            ≡ (if event_with_look_touches_node event.now n then min (oldest_place_of_node self.old n) place else oldest_place_of_node self.old n) }
         ensures none { self.new.none ≡ self.old.none }
     {
         match event.event {
@@ -115,8 +115,8 @@ impl Firsts {
 
     fn note_at(&mut self, node: usize, place: u32)
         requires { node < 144 }
-        ensures places { (n : ℕ) → first_at self.new n
-            ≡ (if node == n then min (first_at self.old n) place else first_at self.old n) }
+        ensures places { (n : ℕ) → oldest_place_of_node self.new n
+            ≡ (if node == n then min (oldest_place_of_node self.old n) place else oldest_place_of_node self.old n) }
         ensures none { self.new.none ≡ self.old.none }
     {
         self.places[node] = self.places[node].min(place);

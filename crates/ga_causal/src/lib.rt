@@ -9,9 +9,9 @@ mod nodes;
 mod rule;
 mod step;
 
-pub use chain::{Chain, Link, find_chain, find_later_chain, is_chain};
-pub use ga_event::Cause;
-pub use ga_grid::Memory;
+pub use chain::{Chain, ChainLink, find_chain, find_chain_after_skipped_events, is_chain};
+pub use ga_event::EventWithLook;
+pub use ga_grid::OutOfMemoryError;
 pub use marks::{MarkedNodes, find_dependents};
 pub use nodes::NodeSet;
 pub use step::position_of_step;

@@ -1,12 +1,12 @@
 //! Marked nodes, and the events that depend on one of a list.
 
 ghost use Rattle.std.specs.Prelude.{◌≡◌, ◌↔◌, ◌<◌, ◌^◌, ℕ, false, length, slice_index_or, IfOk, IsTrue};
-ghost use Rattle.ga_event.specs.Touches.{has_common_node};
-ghost use Rattle.ga_causal.specs.Dependence.{cause_touches, is_marked, marked_nodes, dependent_flags, DependsOn};
+ghost use Rattle.ga_event.specs.Touches.{observes_marked_node};
+ghost use Rattle.ga_causal.specs.Dependence.{event_with_look_touches_node, is_node_flagged, marked_nodes_after_event, dependent_flags, DependsOn};
 
 use crate::nodes::NodeSet;
-use ga_event::Cause;
-use ga_grid::Memory;
+use ga_event::EventWithLook;
+use ga_grid::OutOfMemoryError;
 use std::alloc::Global;
 use std::marker::Model;
 
@@ -26,30 +26,34 @@ impl Model for MarkedNodes {
 
 impl MarkedNodes {
     /// The nodes that this event touches.
-    pub fn new(event: Cause) -> Self
-        ensures { is_marked result ≡ cause_touches event }
+    pub fn new(event: EventWithLook) -> Self
+        ensures { is_node_flagged result ≡ event_with_look_touches_node event }
     {
         let mut nodes = NodeSet::none();
-        nodes.add_touched(&event);
+        nodes.add_touched_nodes(&event);
         MarkedNodes { nodes }
     }
 
     /// Returns whether the event depends on one that was added before: it touches a marked node, or is a look at one. If so the
     /// nodes that it touches are marked.
-    pub fn take(&mut self, event: Cause) -> bool
-        ensures answer { result ≡ has_common_node (is_marked self.old) event }
-        ensures marks { is_marked self.new ≡ marked_nodes (is_marked self.old) event }
+    pub fn take(&mut self, event: EventWithLook) -> bool
+        ensures answer { result ≡ observes_marked_node (is_node_flagged self.old) event }
+        ensures marks { is_node_flagged self.new ≡ marked_nodes_after_event (is_node_flagged self.old) event }
     {
         let is_met = self.nodes.observed_by(&event);
         if is_met {
-            self.nodes.add_touched(&event);
+            self.nodes.add_touched_nodes(&event);
         }
         is_met
     }
 }
 
 /// Of each event of the list, whether it depends on the one at the place, from 0 on. Reads each event once.
-pub fn find_dependents(alloc: Global, events: &[Cause], place: u32) -> Result<Vec<bool>, Memory>
+pub fn find_dependents(
+    alloc: Global,
+    events: &[EventWithLook],
+    place: u32,
+) -> Result<Vec<bool>, OutOfMemoryError>
     requires { place < length events.now }
     ensures flags { IfOk result (λ flags. flags.items ≡ dependent_flags events.now place) }
     ensures exact { IfOk result (λ flags.

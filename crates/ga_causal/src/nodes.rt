@@ -2,14 +2,14 @@
 
 ghost use Rattle.std.specs.Prelude.{◌≡◌, ℕ, false, ◌||◌, ◌==◌};
 ghost use Rattle.std.specs.List.{list_any};
-ghost use Rattle.ga_grid.specs.Grid.{neighbour_of};
-ghost use Rattle.ga_event.specs.Touches.{neighbours, has_common_node};
-ghost use Rattle.ga_causal.specs.Dependence.{touched_nodes, cause_touches, is_marked};
-ghost use Rattle.ga_causal.specs.inner.{any_of};
-ghost use Rattle.ga_causal.specs.Equivalence.{observes};
+ghost use Rattle.ga_grid.specs.Grid.{neighbour_number};
+ghost use Rattle.ga_event.specs.Touches.{neighbours_of_node, observes_marked_node};
+ghost use Rattle.ga_causal.specs.Dependence.{touched_nodes, event_with_look_touches_node, is_node_flagged};
+ghost use Rattle.ga_causal.specs.inner.{is_optional_node_marked};
+ghost use Rattle.ga_causal.specs.Equivalence.{event_observes_node};
 
-use ga_event::{Cause, Event};
-use ga_grid::{CHIP_NODES, NodeId, neighbour};
+use ga_event::{Event, EventWithLook};
+use ga_grid::{CHIP_NODE_COUNT, NodeId, neighbour};
 use ga_ports::Side;
 use std::marker::Model;
 
@@ -32,23 +32,23 @@ impl Model for NodeSet {
 impl NodeSet {
     /// The set of no nodes.
     pub fn none() -> Self
-        ensures { (n : ℕ) → is_marked result n ≡ false }
+        ensures { (n : ℕ) → is_node_flagged result n ≡ false }
     {
         NodeSet {
-            flags: [false; CHIP_NODES],
+            flags: [false; CHIP_NODE_COUNT],
         }
     }
 
     /// Whether the node is one of the set.
     pub fn has(&self, node: NodeId) -> bool
-        ensures { result ≡ is_marked self.now node.number }
+        ensures { result ≡ is_node_flagged self.now node.number }
     {
         self.flags[node.index()]
     }
 
     /// Whether the event touches a node of the set.
-    pub fn is_touched_by(&self, event: &Cause) -> bool
-        ensures { result ≡ list_any (is_marked self.now) (touched_nodes event.now) }
+    pub fn is_touched_by(&self, event: &EventWithLook) -> bool
+        ensures { result ≡ list_any (is_node_flagged self.now) (touched_nodes event.now) }
     {
         match event.event {
             Event::Own(node) => self.has(node),
@@ -57,9 +57,9 @@ impl NodeSet {
     }
 
     /// Whether the event touches a node of the set, or looks at one.
-    #[tactic(auto, unfolding(ga_event::specs::Touches::observed_by))]
-    pub fn observed_by(&self, event: &Cause) -> bool
-        ensures { result ≡ has_common_node (is_marked self.now) event.now }
+    #[tactic(auto, unfolding(ga_event::specs::Touches::nodes_observed_by_event))]
+    pub fn observed_by(&self, event: &EventWithLook) -> bool
+        ensures { result ≡ observes_marked_node (is_node_flagged self.now) event.now }
     {
         match event.event {
             Event::Own(node) => self.has(node) || (event.look && self.has_beside(node)),
@@ -68,8 +68,8 @@ impl NodeSet {
     }
 
     /// Adds the nodes that an event touches.
-    pub fn add_touched(&mut self, event: &Cause)
-        ensures { (n : ℕ) → is_marked self.new n ≡ (is_marked self.old n || cause_touches event.now n) }
+    pub fn add_touched_nodes(&mut self, event: &EventWithLook)
+        ensures { (n : ℕ) → is_node_flagged self.new n ≡ (is_node_flagged self.old n || event_with_look_touches_node event.now n) }
     {
         match event.event {
             Event::Own(node) => self.add(node),
@@ -81,9 +81,9 @@ impl NodeSet {
     }
 
     /// Adds the nodes that an event touches or looks at.
-    #[tactic(auto, unfolding(ga_event::specs::Touches::observed_by))]
-    pub fn add_observed(&mut self, event: &Cause)
-        ensures { (n : ℕ) → is_marked self.new n ≡ (is_marked self.old n || observes event.now n) }
+    #[tactic(auto, unfolding(ga_event::specs::Touches::nodes_observed_by_event))]
+    pub fn add_observed_nodes(&mut self, event: &EventWithLook)
+        ensures { (n : ℕ) → is_node_flagged self.new n ≡ (is_node_flagged self.old n || event_observes_node event.now n) }
     {
         match event.event {
             Event::Own(node) => {
@@ -100,9 +100,9 @@ impl NodeSet {
     }
 
     // Whether a neighbour of the node is one of the set.
-    #[tactic(auto, using(crate::proofs::Oldest::any_neighbours))]
+    #[tactic(auto, using(crate::proofs::OldestEventPlaces::any_neighbours))]
     fn has_beside(&self, node: NodeId) -> bool
-        ensures { result ≡ list_any (is_marked self.now) (neighbours node.number) }
+        ensures { result ≡ list_any (is_node_flagged self.now) (neighbours_of_node node.number) }
     {
         let right = self.has_on(node, Side::Right);
         let down = self.has_on(node, Side::Down);
@@ -113,7 +113,7 @@ impl NodeSet {
 
     // Whether the neighbour on a side is one of the set.
     fn has_on(&self, node: NodeId, side: Side) -> bool
-        ensures { result ≡ any_of (is_marked self.now) (neighbour_of node.number side) }
+        ensures { result ≡ is_optional_node_marked (is_node_flagged self.now) (neighbour_number node.number side) }
     {
         match neighbour(node, side) {
             Some(other) => self.has(other),
@@ -123,15 +123,15 @@ impl NodeSet {
 
     // Adds a node.
     fn add(&mut self, node: NodeId)
-        ensures { (n : ℕ) → is_marked self.new n ≡ (is_marked self.old n || node.number == n) }
+        ensures { (n : ℕ) → is_node_flagged self.new n ≡ (is_node_flagged self.old n || node.number == n) }
     {
         self.flags[node.index()] = true;
     }
 
     // Adds the neighbours of a node.
-    #[tactic(auto, using(crate::proofs::Oldest::four_sides, crate::proofs::Oldest::any_neighbours))]
+    #[tactic(auto, using(crate::proofs::OldestEventPlaces::four_sides, crate::proofs::OldestEventPlaces::any_neighbours))]
     fn add_beside(&mut self, node: NodeId)
-        ensures { (n : ℕ) → is_marked self.new n ≡ (is_marked self.old n || list_any (λ m. m == n) (neighbours node.number)) }
+        ensures { (n : ℕ) → is_node_flagged self.new n ≡ (is_node_flagged self.old n || list_any (λ m. m == n) (neighbours_of_node node.number)) }
     {
         self.add_on(node, Side::Right);
         self.add_on(node, Side::Down);
@@ -141,7 +141,7 @@ impl NodeSet {
 
     // Adds the neighbour on a side, where there is one.
     fn add_on(&mut self, node: NodeId, side: Side)
-        ensures { (n : ℕ) → is_marked self.new n ≡ (is_marked self.old n || any_of (λ m. m == n) (neighbour_of node.number side)) }
+        ensures { (n : ℕ) → is_node_flagged self.new n ≡ (is_node_flagged self.old n || is_optional_node_marked (λ m. m == n) (neighbour_number node.number side)) }
     {
         if let Some(other) = neighbour(node, side) {
             self.add(other);

@@ -2,12 +2,12 @@
 
 ghost use Rattle.std.specs.Prelude.{◌≡◌};
 ghost use Rattle.std.specs.List.{list_any};
-ghost use Rattle.ga_grid.specs.Grid.{neighbour_of};
-ghost use Rattle.ga_event.specs.Touches.{touches, event_nodes, neighbours, looked_at_nodes};
-ghost use Rattle.ga_causal.specs.inner.{any_of};
+ghost use Rattle.ga_grid.specs.Grid.{neighbour_number};
+ghost use Rattle.ga_event.specs.Touches.{touches, event_nodes, neighbours_of_node, looked_at_nodes};
+ghost use Rattle.ga_causal.specs.inner.{is_optional_node_marked};
 ghost use Rattle.ga_causal.specs.Dependence.{is_transfer_event, dependence_rule};
 
-use ga_event::{Cause, Event, touches};
+use ga_event::{Event, EventWithLook, touches};
 use ga_grid::{NodeId, neighbour};
 use ga_ports::Side;
 
@@ -25,7 +25,7 @@ fn is_touched(earlier: &Event, later: &Event) -> bool
 
 /// Whether the event touches the neighbour on a side of a node.
 fn touches_beside(earlier: &Event, node: NodeId, side: Side) -> bool
-    ensures { result ≡ any_of (touches earlier.now) (neighbour_of node.number side) }
+    ensures { result ≡ is_optional_node_marked (touches earlier.now) (neighbour_number node.number side) }
 {
     match neighbour(node, side) {
         Some(other) => touches(*earlier, other),
@@ -34,9 +34,9 @@ fn touches_beside(earlier: &Event, node: NodeId, side: Side) -> bool
 }
 
 /// Whether the event touches a neighbour of a node.
-#[tactic(auto, using(crate::proofs::Oldest::any_neighbours))]
+#[tactic(auto, using(crate::proofs::OldestEventPlaces::any_neighbours))]
 fn touches_a_neighbour(earlier: &Event, node: NodeId) -> bool
-    ensures { result ≡ list_any (touches earlier.now) (neighbours node.number) }
+    ensures { result ≡ list_any (touches earlier.now) (neighbours_of_node node.number) }
 {
     let right = touches_beside(earlier, node, Side::Right);
     let down = touches_beside(earlier, node, Side::Down);
@@ -46,7 +46,7 @@ fn touches_a_neighbour(earlier: &Event, node: NodeId) -> bool
 }
 
 /// Whether the later event looks at a node that the earlier one touches.
-fn is_looked_at(earlier: &Event, later: &Cause) -> bool
+fn is_looked_at(earlier: &Event, later: &EventWithLook) -> bool
     ensures { result ≡ list_any (touches earlier.now) (looked_at_nodes later.now.event later.now.look) }
 {
     match later.event {
@@ -62,8 +62,8 @@ fn is_pass(event: &Event) -> bool
 }
 
 /// The rule by which the later event depends directly on the earlier one, or 0.
-#[tactic(auto, using(crate::proofs::Oldest::meets_parts))]
-pub(crate) fn rule(earlier: &Cause, later: &Cause) -> u8
+#[tactic(auto, using(crate::proofs::OldestEventPlaces::meets_parts))]
+pub(crate) fn rule(earlier: &EventWithLook, later: &EventWithLook) -> u8
     ensures { result ≡ dependence_rule earlier.now later.now }
 {
     if is_touched(&earlier.event, &later.event) {

@@ -6,15 +6,15 @@ use Rattle.std.proofs.lemmas.Option.{same_Some, slice_get_within}
 use Rattle.std.proofs.lemmas.List.Elements.{All-contains}
 use Rattle.ga_node.specs.Record.{NodeRecord}
 use Rattle.ga_event.specs.declared.event.Event.{Event}
-use Rattle.ga_event.specs.Apply.{after, replay}
+use Rattle.ga_event.specs.Apply.{event_result, replay}
 use Rattle.ga_races.proofs.Independence.{replay_more}
-use Rattle.ga_lab.specs.Machine.{State, chip_of}
-use Rattle.ga_explorer_text.specs.Saved.{saved_text}
+use Rattle.ga_lab.specs.Machine.{MachineState, chip_of_machine}
+use Rattle.ga_explorer_text.specs.Saved.{saved_session_text}
 use Rattle.ga_console.specs.declared.run.Status.TheVariants.{ImageRefused}
 use Rattle.ga_state_store.specs.declared.edges.Edge.{Edge}
 use Rattle.ga_state_search.specs.Searching.{StoredSearch, IsStoredSearch}
 use Rattle.ga_state_search.proofs.Reaching.{reachable}
-use Rattle.ga_state_graph.specs.Paths.{IsEdge, IsStatePath}
+use Rattle.ga_state_graph.specs.Paths.{IsEdgeOfState, IsStatePath}
 use Rattle.ga_state_graph.proofs.Numbering.{has_list, in_list}
 use Rattle.ga_state_ends.specs.Ends.{EndSearchResult, AreEndsOfChip}
 use Rattle.ga_state_ends.specs.declared.end_kind.StoredEnd.{StoredEnd}
@@ -25,7 +25,7 @@ use Rattle.ga_state_ends.proofs.Whole.{end_reachable, end_bound}
 use Rattle.ga_state_links.proofs.Whole.{holds_over}
 use Rattle.ga_state_conditions.proofs.Whole.{none_met}
 use Rattle.ga_state_expectations.specs.declared.source.Expectation.{Expectation}
-use Rattle.ga_state_expectations.specs.declared.source.Expectation.TheVariants.{AtEnds, Never, Passes, EveryOrderEnds, OneEnd}
+use Rattle.ga_state_expectations.specs.declared.source.Expectation.TheVariants.{NodeAtEveryEnd, Never, LinkPassesWords, EveryOrderEnds, OneEnd}
 use Rattle.ga_state_expectations.specs.declared.source.LineExpectation.{LineExpectation}
 use Rattle.ga_state_expectations.proofs.Interleavings.{met_there, unmet_there}
 use Rattle.ga_check_report.specs.declared.request.CheckRequest.{CheckRequest}
@@ -33,9 +33,9 @@ use Rattle.ga_check_report.specs.declared.outcome.Breach.{Breach}
 use Rattle.ga_check_report.specs.declared.outcome.ExpectationOutcome.{ExpectationOutcome}
 use Rattle.ga_check_report.specs.declared.outcome.ExpectationOutcome.TheVariants.{Holds, Broken}
 use Rattle.ga_check_report.specs.declared.outcome.ExpectationOutcome.TheVariants as outcome
-use Rattle.ga_check_report.specs.declared.report.Verdict.TheVariants.{Clean, Unclean, Unknown, Saved, Ended}
-use Rattle.ga_check_report.specs.Outcomes.{HasNoBreach, IsBreach, IsExpectationOutcome, AreExpectationOutcomes, is_outcome_broken, is_outcome_unknown, outcomes_verdict, expectations_verdict, HoldsInEveryOrder, IsBrokenInSomeOrder}
-use Rattle.ga_check_report.specs.SameEnd.{one_end_outcome}
+use Rattle.ga_check_report.specs.declared.report.Verdict.TheVariants.{Clean, Unclean, Unknown, SessionWritten, FailedWithStatus}
+use Rattle.ga_check_report.specs.Outcomes.{HasNoBreach, IsBreachOfExpectation, IsExpectationOutcome, AreExpectationOutcomes, is_outcome_broken, is_outcome_unknown, outcomes_verdict, expectations_verdict, HoldsInEveryOrder, IsBrokenInSomeOrder}
+use Rattle.ga_check_report.specs.SameEnd.{single_end_expectation_outcome}
 use Rattle.ga_check_report.proofs.SameEnds.{one_end_known, clean_with_same, unclean_with_same, saved_with_same}
 use Rattle.ga_check_report.specs.Expected.{LeadsToBreach, WritesExpectationsReport}
 use Rattle.ga_check_report.specs.Expected.WritesExpectationsReport.{all, led, unbroken, missing, no_memory, too_long}
@@ -43,12 +43,12 @@ use Rattle.ga_check_report.specs.Expected.WritesExpectationsReport.{all, led, un
 -- ---- a path of states
 
 edge_leads : (searched : StoredSearch) (state : ℕ) (chip : List NodeRecord) (edge : Edge) → IsStoredSearch searched → slice_get searched.chips state ≡ Some chip
-    → IsEdge searched.edges state edge → slice_get searched.chips edge.state ≡ Some (after chip edge.event).0
+    → IsEdgeOfState searched.edges state edge → slice_get searched.chips edge.state ≡ Some (event_result chip edge.event).0
 edge_leads searched state chip edge is at is_edge =
     let list = some_at searched.edges state (has_list searched.edges state edge is_edge) in
     let here = in_list searched.edges state is_edge.0 list.0 edge list.1 is_edge.1 in
     let all = is.explored state chip list.0 at list.1 in
-    All-contains (λ (it : Edge). slice_get searched.chips it.state ≡ Some (after chip it.event).0) list.0 edge all.successors (in_place list.0 is_edge.0 edge here)
+    All-contains (λ (it : Edge). slice_get searched.chips it.state ≡ Some (event_result chip it.event).0) list.0 edge all.successors (in_place list.0 is_edge.0 edge here)
 
 abbrev path_events : List Edge → List Event
 path_events path = map (λ (edge : Edge). edge.event) path
@@ -58,7 +58,7 @@ path_replayed : (searched : StoredSearch) (path : List Edge) (from to : ℕ) (ch
 path_replayed searched [] from to chip there is on at last = sym at ∙ ap (slice_get searched.chips) on ∙ last
 path_replayed searched (edge ∷ path) from to chip there is on at last =
     replay_more chip edge.event (path_events path) (edge_enabled searched from chip edge is at on.0)
-    ∙ path_replayed searched path edge.state to (after chip edge.event).0 there is on.1 (edge_leads searched from chip edge is at on.0) last
+    ∙ path_replayed searched path edge.state to (event_result chip edge.event).0 there is on.1 (edge_leads searched from chip edge is at on.0) last
 
 -- ---- what holds
 
@@ -69,44 +69,44 @@ only_end ends one other end more few at there =
     let same : one ≡ other = omega arith in
     same_Some end more (sym at ∙ ap (slice_get ends) same ∙ there)
 
-pub held : (s : State) (found : EndSearchResult) (expectation : Expectation) → AreEndsOfChip (chip_of s) found → found.fault ≡ None → HasNoBreach found expectation
-    → HoldsInEveryOrder (chip_of s) expectation
-held s found (AtEnds expectation) are whole met = λ last events led returns. met_there (chip_of s) found are whole expectation met last events led returns
+pub held : (s : MachineState) (found : EndSearchResult) (expectation : Expectation) → AreEndsOfChip (chip_of_machine s) found → found.fault ≡ None → HasNoBreach found expectation
+    → HoldsInEveryOrder (chip_of_machine s) expectation
+held s found (NodeAtEveryEnd expectation) are whole met = λ last events led returns. met_there (chip_of_machine s) found are whole expectation met last events led returns
 held s found (Never conditions) are whole none = λ last events event place condition at led can met.
-    none_met (chip_of s) found are whole conditions.items none place condition at last events event led can met
-held s found (Passes expected) are whole none = holds_over (chip_of s) found are whole expected none
-held s found EveryOrderEnds are whole none = (length found.searched.chips, λ last events led. end_bound (chip_of s) found are whole none last events led)
+    none_met (chip_of_machine s) found are whole conditions.items none place condition at last events event led can met
+held s found (LinkPassesWords expected) are whole none = holds_over (chip_of_machine s) found are whole expected none
+held s found EveryOrderEnds are whole none = (length found.searched.chips, λ last events led. end_bound (chip_of_machine s) found are whole none last events led)
 held s found OneEnd are whole few =
-    let first = end_reachable (chip_of s) found are whole (chip_of s) [] refl in (
+    let first = end_reachable (chip_of_machine s) found are whole (chip_of_machine s) [] refl in (
       first.1,
       λ last events led.
-          let it = end_reachable (chip_of s) found are whole last events led in
+          let it = end_reachable (chip_of_machine s) found are whole last events led in
           let same : it.3 ≡ first.3 = only_end found.ends it.2 first.2 it.3 first.3 few it.5 first.5 in
           (it.0, it.4 ∙ sym it.6 ∙ ap (λ (e : StoredEnd). slice_get found.searched.chips e.state) same ∙ first.6),
     )
 
-pub outcome_held : (s : State) (found : EndSearchResult) (expectation : Expectation) → AreEndsOfChip (chip_of s) found → IsExpectationOutcome s found expectation Holds
-    → HoldsInEveryOrder (chip_of s) expectation
+pub outcome_held : (s : MachineState) (found : EndSearchResult) (expectation : Expectation) → AreEndsOfChip (chip_of_machine s) found → IsExpectationOutcome s found expectation Holds
+    → HoldsInEveryOrder (chip_of_machine s) expectation
 outcome_held s found expectation are it = held s found expectation are it.0 it.1
 
-pub one_end_held : (s : State) (found : EndSearchResult) → AreEndsOfChip (chip_of s) found → one_end_outcome found ≡ Holds → HoldsInEveryOrder (chip_of s) OneEnd
+pub one_end_held : (s : MachineState) (found : EndSearchResult) → AreEndsOfChip (chip_of_machine s) found → single_end_expectation_outcome found ≡ Holds → HoldsInEveryOrder (chip_of_machine s) OneEnd
 one_end_held s found are is = outcome_held s found OneEnd are (subst (IsExpectationOutcome s found OneEnd) is (one_end_known s found))
 
 -- ---- what is broken
 
-pub outcome_broken : (s : State) (found : EndSearchResult) (expectation : Expectation) (breach : Breach) → AreEndsOfChip (chip_of s) found → IsBreach s found expectation breach
+pub outcome_broken : (s : MachineState) (found : EndSearchResult) (expectation : Expectation) (breach : Breach) → AreEndsOfChip (chip_of_machine s) found → IsBreachOfExpectation s found expectation breach
     → IsBrokenInSomeOrder s found expectation
-outcome_broken s found (AtEnds expectation) breach are it =
-    let there = unmet_there (chip_of s) found are expectation it.0 it.1 it.2 it.3 in
+outcome_broken s found (NodeAtEveryEnd expectation) breach are it =
+    let there = unmet_there (chip_of_machine s) found are expectation it.0 it.1 it.2 it.3 in
     (it.1, there.0.0, there.0.1, there.1, there.2)
 outcome_broken s found (Never conditions) breach are it = (it.0, it.1, it.2, it.3)
-outcome_broken s found (Passes expected) breach are it = (it.0, it.1, it.2, it.3)
+outcome_broken s found (LinkPassesWords expected) breach are it = (it.0, it.1, it.2, it.3)
 outcome_broken s found EveryOrderEnds breach are it =
     let cycle = are.cycle.0 it.1 in
     let size = are.is_search.explored_size in
     let below : cycle.0 < length found.searched.edges = has_list found.searched.edges cycle.0 cycle.1 cycle.3.0 in
     let chip = some_at found.searched.chips cycle.0 (omega arith) in
-    let way = reachable found.searched (chip_of s) cycle.0 chip.0 are.is_search are.initial chip.1 in
+    let way = reachable found.searched (chip_of_machine s) cycle.0 chip.0 are.is_search are.initial chip.1 in
     (chip.0, way.0, cycle.1.event, path_events cycle.2, way.1, path_replayed found.searched (cycle.1 ∷ cycle.2) cycle.0 cycle.0 chip.0 chip.0 are.is_search cycle.3 chip.1 chip.1)
 outcome_broken s found OneEnd breach are it = it.1
 
@@ -122,20 +122,20 @@ unclean_by true unknown is = refl
 unclean_by false true is = absurd (cc)
 unclean_by false false is = absurd (cc)
 
-not_saved : (broken unknown : Bool) → Saved ≡ cond broken Unclean (cond unknown Unknown Clean) → ⊥
+not_saved : (broken unknown : Bool) → SessionWritten ≡ cond broken Unclean (cond unknown Unknown Clean) → ⊥
 not_saved true unknown is = cc
 not_saved false true is = cc
 not_saved false false is = cc
 
-clean_not_unbroken : (unknown : Bool) → Clean ≡ cond unknown Unknown (Ended ImageRefused) → ⊥
+clean_not_unbroken : (unknown : Bool) → Clean ≡ cond unknown Unknown (FailedWithStatus ImageRefused) → ⊥
 clean_not_unbroken true is = cc
 clean_not_unbroken false is = cc
 
-unclean_not_unbroken : (unknown : Bool) → Unclean ≡ cond unknown Unknown (Ended ImageRefused) → ⊥
+unclean_not_unbroken : (unknown : Bool) → Unclean ≡ cond unknown Unknown (FailedWithStatus ImageRefused) → ⊥
 unclean_not_unbroken true is = cc
 unclean_not_unbroken false is = cc
 
-saved_not_unbroken : (unknown : Bool) → Saved ≡ cond unknown Unknown (Ended ImageRefused) → ⊥
+saved_not_unbroken : (unknown : Bool) → SessionWritten ≡ cond unknown Unknown (FailedWithStatus ImageRefused) → ⊥
 saved_not_unbroken true is = cc
 saved_not_unbroken false is = cc
 
@@ -159,10 +159,10 @@ some_broken (Holds ∷ outcomes) is = one_later Holds outcomes (some_broken outc
 some_broken (Broken breach ∷ outcomes) is = (0, breach, omega arith, refl)
 some_broken (outcome.Unknown ∷ outcomes) is = one_later outcome.Unknown outcomes (some_broken outcomes is)
 
-abbrev EachHolds : List LineExpectation → State → Type 0
-EachHolds expectations s = (place : ℕ) (one : LineExpectation) → slice_get expectations place ≡ Some one → HoldsInEveryOrder (chip_of s) one.expectation
+abbrev EachHolds : List LineExpectation → MachineState → Type 0
+EachHolds expectations s = (place : ℕ) (one : LineExpectation) → slice_get expectations place ≡ Some one → HoldsInEveryOrder (chip_of_machine s) one.expectation
 
-all_held : (s : State) (found : EndSearchResult) (expectations : List LineExpectation) (outcomes : List ExpectationOutcome) → AreEndsOfChip (chip_of s) found
+all_held : (s : MachineState) (found : EndSearchResult) (expectations : List LineExpectation) (outcomes : List ExpectationOutcome) → AreEndsOfChip (chip_of_machine s) found
     → AreExpectationOutcomes s found expectations outcomes → list_any is_outcome_broken outcomes ≡ false → list_any is_outcome_unknown outcomes ≡ false → EachHolds expectations s
 all_held s found expectations outcomes are known broken unknown = λ place one at.
     let within : place < length expectations = slice_get_within expectations place one at in
@@ -170,11 +170,11 @@ all_held s found expectations outcomes are known broken unknown = λ place one a
     let holds : get_or outcomes place outcome.Unknown ≡ Holds = each_holds outcomes place (omega arith) broken unknown in
     outcome_held s found one.expectation are (subst (IsExpectationOutcome s found one.expectation) holds (known.known place one at))
 
-abbrev OneIsBroken : EndSearchResult → List LineExpectation → State → Type 0
+abbrev OneIsBroken : EndSearchResult → List LineExpectation → MachineState → Type 0
 OneIsBroken found expectations s =
     (place : ℕ) × (one : LineExpectation) × (slice_get expectations place ≡ Some one) × IsBrokenInSomeOrder s found one.expectation
 
-one_broken : (s : State) (found : EndSearchResult) (expectations : List LineExpectation) (outcomes : List ExpectationOutcome) → AreEndsOfChip (chip_of s) found
+one_broken : (s : MachineState) (found : EndSearchResult) (expectations : List LineExpectation) (outcomes : List ExpectationOutcome) → AreEndsOfChip (chip_of_machine s) found
     → AreExpectationOutcomes s found expectations outcomes → list_any is_outcome_broken outcomes ≡ true → OneIsBroken found expectations s
 one_broken s found expectations outcomes are known broken =
     let it = some_broken outcomes broken in
@@ -184,12 +184,12 @@ one_broken s found expectations outcomes are known broken =
     (it.0, one.0, one.1, outcome_broken s found one.0.expectation it.1 are (subst (IsExpectationOutcome s found one.0.expectation) it.3 (known.known it.0 one.0 one.1)))
 
 -- the expectations were written, and what is known of each
-abbrev HasCleanOutcomes : CheckRequest → List LineExpectation → State → Type 0
+abbrev HasCleanOutcomes : CheckRequest → List LineExpectation → MachineState → Type 0
 HasCleanOutcomes request expectations s =
-    (found : EndSearchResult) × (outcomes : List ExpectationOutcome) × AreEndsOfChip (chip_of s) found × AreExpectationOutcomes s found expectations outcomes
+    (found : EndSearchResult) × (outcomes : List ExpectationOutcome) × AreEndsOfChip (chip_of_machine s) found × AreExpectationOutcomes s found expectations outcomes
     × (Clean ≡ expectations_verdict request found outcomes)
 
-clean_outcomes : (request : CheckRequest) (expectations : List LineExpectation) (asked : ℕ) (s : State) (text : List ℕ)
+clean_outcomes : (request : CheckRequest) (expectations : List LineExpectation) (asked : ℕ) (s : MachineState) (text : List ℕ)
     → WritesExpectationsReport request expectations asked s text Clean → HasCleanOutcomes request expectations s
 clean_outcomes request expectations asked s text (all found outcomes decisions are known decides start (inl out)) = (found, outcomes, are, known, out.1)
 clean_outcomes request expectations asked s text (all found outcomes decisions are known decides start (inr out)) = absurd (let q = out.1 in cc)
@@ -204,7 +204,7 @@ clean_outcomes request expectations asked s text (no_memory (inr out)) = absurd 
 clean_outcomes request expectations asked s text (too_long (inl out)) = absurd (let q = out.1 in cc)
 clean_outcomes request expectations asked s text (too_long (inr out)) = absurd (let q = out.1 in cc)
 
-pub clean_told : (request : CheckRequest) (expectations : List LineExpectation) (asked : ℕ) (s : State) (text : List ℕ) → WritesExpectationsReport request expectations asked s text Clean
+pub clean_told : (request : CheckRequest) (expectations : List LineExpectation) (asked : ℕ) (s : MachineState) (text : List ℕ) → WritesExpectationsReport request expectations asked s text Clean
     → EachHolds expectations s
 clean_told request expectations asked s text report =
     let it = clean_outcomes request expectations asked s text report in
@@ -213,15 +213,15 @@ clean_told request expectations asked s text report =
     all_held s it.0 expectations it.1 it.2 it.3 parts.0 parts.1
 
 -- with `--same` the program has one end
-pub one_end_told : (request : CheckRequest) (expectations : List LineExpectation) (asked : ℕ) (s : State) (text : List ℕ)
-    → WritesExpectationsReport request expectations asked s text Clean → request.same ≡ true → HoldsInEveryOrder (chip_of s) OneEnd
+pub one_end_told : (request : CheckRequest) (expectations : List LineExpectation) (asked : ℕ) (s : MachineState) (text : List ℕ)
+    → WritesExpectationsReport request expectations asked s text Clean → request.same ≡ true → HoldsInEveryOrder (chip_of_machine s) OneEnd
 one_end_told request expectations asked s text report is =
     let it = clean_outcomes request expectations asked s text report in
     let same = clean_with_same request.same it.0 (outcomes_verdict it.1) it.4 in
     one_end_held s it.0 it.2 (same.1 is)
 
-pub unclean_told : (request : CheckRequest) (expectations : List LineExpectation) (asked : ℕ) (s : State) (text : List ℕ) → WritesExpectationsReport request expectations asked s text Unclean
-    → (found : EndSearchResult) × AreEndsOfChip (chip_of s) found × (OneIsBroken found expectations s ⊎ ((request.same ≡ true) × IsBrokenInSomeOrder s found OneEnd))
+pub unclean_told : (request : CheckRequest) (expectations : List LineExpectation) (asked : ℕ) (s : MachineState) (text : List ℕ) → WritesExpectationsReport request expectations asked s text Unclean
+    → (found : EndSearchResult) × AreEndsOfChip (chip_of_machine s) found × (OneIsBroken found expectations s ⊎ ((request.same ≡ true) × IsBrokenInSomeOrder s found OneEnd))
 unclean_told request expectations asked s text (all found outcomes decisions are known decides start (inl out)) = (
   found,
   are,
@@ -242,8 +242,8 @@ unclean_told request expectations asked s text (no_memory (inr out)) = absurd (l
 unclean_told request expectations asked s text (too_long (inl out)) = absurd (let q = out.1 in cc)
 unclean_told request expectations asked s text (too_long (inr out)) = absurd (let q = out.1 in cc)
 
-pub session_told : (request : CheckRequest) (expectations : List LineExpectation) (asked : ℕ) (s : State) (text : List ℕ) → WritesExpectationsReport request expectations asked s text Saved
-    → (one : LineExpectation) × (last : State) × (slice_get expectations (asked - 1) ≡ Some one) × LeadsToBreach s one.expectation last × (text ≡ saved_text last)
+pub session_told : (request : CheckRequest) (expectations : List LineExpectation) (asked : ℕ) (s : MachineState) (text : List ℕ) → WritesExpectationsReport request expectations asked s text SessionWritten
+    → (one : LineExpectation) × (last : MachineState) × (slice_get expectations (asked - 1) ≡ Some one) × LeadsToBreach s one.expectation last × (text ≡ saved_session_text last)
 session_told request expectations asked s text (all found outcomes decisions are known decides start (inl out)) =
     absurd (not_saved (list_any is_outcome_broken outcomes) (list_any is_outcome_unknown outcomes) (saved_with_same request.same found (outcomes_verdict outcomes) out.1))
 session_told request expectations asked s text (all found outcomes decisions are known decides start (inr out)) = absurd (let q = out.1 in cc)

@@ -4,20 +4,20 @@ use Rattle.std.specs.Prelude.{slice_get, IsSome, IfOk, OnOk}
 use Rattle.std.proofs.lemmas.Option.{same_Some}
 use Rattle.ga_node.specs.Record.{NodeRecord}
 use Rattle.ga_event.specs.declared.event.Event.{Event}
-use Rattle.ga_event.specs.declared.made.Made.{Made}
+use Rattle.ga_event.specs.declared.made.MadeEvent.{MadeEvent}
 use Rattle.ga_event.specs.Apply.{replay}
 use Rattle.ga_races.specs.Orders.{IsEnabled}
 use Rattle.ga_lab.specs.declared.fault.LabFault.{LabFault}
-use Rattle.ga_lab.specs.Machine.{State, chip_of, made_next_event, with_event}
+use Rattle.ga_lab.specs.Machine.{MachineState, chip_of_machine, made_next_event, machine_with_event}
 use Rattle.ga_state_search.specs.declared.fault.SearchFault.{SearchFault}
 use Rattle.ga_state_conditions.specs.declared.condition.StateCondition.{StateCondition}
-use Rattle.ga_state_conditions.specs.Reached.{IsConditionMet, IsConditionReachedOn}
+use Rattle.ga_state_conditions.specs.Reached.{IsConditionMet, IsConditionReachedOnChip}
 use Rattle.ga_state_conditions.proofs.Whole.{none_met}
 use Rattle.ga_check_report.specs.Checking.{HasAppendedEvents}
 use Rattle.ga_check_report.specs.EndTexts.{is_fully_explored}
 use Rattle.ga_check_report.specs.Answers.{reached_event_answer}
-use Rattle.ga_check_report.specs.Never.{HasReachedEvent, WritesNeverReport}
-use Rattle.ga_check_report.specs.Never.WritesNeverReport.{none, one, no_memory, too_long}
+use Rattle.ga_check_report.specs.Never.{HasReachedEvent, WritesNeverCheckReport}
+use Rattle.ga_check_report.specs.Never.WritesNeverCheckReport.{none, one, no_memory, too_long}
 use Rattle.ga_check_report.specs.declared.request.CheckRequest.{CheckRequest}
 use Rattle.ga_check_report.specs.declared.report.Verdict.TheVariants.{Clean, Unclean, Unknown}
 
@@ -29,11 +29,11 @@ not_unclean : (whole : Bool) → Unclean ≡ cond whole Clean Unknown → ⊥
 not_unclean true is = cc
 not_unclean false is = cc
 
-pub never_told : (request : CheckRequest) (conditions : List StateCondition) (session : Bool) (s : State) (text : List ℕ) → WritesNeverReport request conditions session s text Clean
+pub never_told : (request : CheckRequest) (conditions : List StateCondition) (session : Bool) (s : MachineState) (text : List ℕ) → WritesNeverCheckReport request conditions session s text Clean
     → (last : List NodeRecord) (events : List Event) (event : Event) (place : ℕ) (condition : StateCondition) → slice_get conditions place ≡ Some condition
-    → replay (chip_of s) events ≡ Some last → IsEnabled last event → IsConditionMet condition last event → ⊥
+    → replay (chip_of_machine s) events ≡ Some last → IsEnabled last event → IsConditionMet condition last event → ⊥
 never_told request conditions session s text (none found ends nothing (inl out)) last events event place condition at led can met =
-    none_met (chip_of s) found ends (whole_by found.fault out.1) conditions nothing place condition at last events event led can met
+    none_met (chip_of_machine s) found ends (whole_by found.fault out.1) conditions nothing place condition at last events event led can met
 never_told request conditions session s text (none found ends nothing (inr out)) last events event place condition at led can met = absurd (let q = out.1 in cc)
 never_told request conditions session s text (one which there made is (inl out)) last events event place condition at led can met = absurd (let q = out.1 in cc)
 never_told request conditions session s text (one which there made is (inr out)) last events event place condition at led can met = absurd (let q = out.1 in cc)
@@ -42,11 +42,11 @@ never_told request conditions session s text (no_memory (inr out)) last events e
 never_told request conditions session s text (too_long (inl out)) last events event place condition at led can met = absurd (let q = out.1 in cc)
 never_told request conditions session s text (too_long (inr out)) last events event place condition at led can met = absurd (let q = out.1 in cc)
 
-abbrev pub IsReachedTold : CheckRequest → List StateCondition → Bool → State → List ℕ → Type 0
+abbrev pub IsReachedTold : CheckRequest → List StateCondition → Bool → MachineState → List ℕ → Type 0
 IsReachedTold request conditions session s text =
-    (which : ℕ) × (last : State) × (made : Made) × HasReachedEvent conditions which s last made × (text ≡ reached_event_answer request.format session (length conditions) which made last)
+    (which : ℕ) × (last : MachineState) × (made : MadeEvent) × HasReachedEvent conditions which s last made × (text ≡ reached_event_answer request.format session (length conditions) which made last)
 
-pub reached_told : (request : CheckRequest) (conditions : List StateCondition) (session : Bool) (s : State) (text : List ℕ) → WritesNeverReport request conditions session s text Unclean
+pub reached_told : (request : CheckRequest) (conditions : List StateCondition) (session : Bool) (s : MachineState) (text : List ℕ) → WritesNeverCheckReport request conditions session s text Unclean
     → IsReachedTold request conditions session s text
 reached_told request conditions session s text (none found ends nothing (inl out)) = absurd (not_unclean (is_fully_explored found.fault) out.1)
 reached_told request conditions session s text (none found ends nothing (inr out)) = absurd (let q = out.1 in cc)
@@ -58,31 +58,31 @@ reached_told request conditions session s text (too_long (inl out)) = absurd (le
 reached_told request conditions session s text (too_long (inr out)) = absurd (let q = out.1 in cc)
 
 -- the machine that made the events of a session, and then its last
-pub reached_by : (s t u : State) (conditions : List StateCondition) (which : ℕ) (events : List Event) (event : Event) (chip : List NodeRecord) (made : Made)
-    → replay (chip_of s) events ≡ Some chip → IsConditionReachedOn conditions which chip event → HasAppendedEvents s events t → replay (chip_of s) events ≡ Some (chip_of t)
-    → made ≡ made_next_event t event → u ≡ with_event t (Ok event) → HasReachedEvent conditions which s u made
+pub reached_by : (s t u : MachineState) (conditions : List StateCondition) (which : ℕ) (events : List Event) (event : Event) (chip : List NodeRecord) (made : MadeEvent)
+    → replay (chip_of_machine s) events ≡ Some chip → IsConditionReachedOnChip conditions which chip event → HasAppendedEvents s events t → replay (chip_of_machine s) events ≡ Some (chip_of_machine t)
+    → made ≡ made_next_event t event → u ≡ machine_with_event t (Ok event) → HasReachedEvent conditions which s u made
 reached_by s t u conditions which events event chip made led is appended there report leads = record {
   events = events;
   before = t;
   led = appended;
   event = event;
-  reached = subst (λ (c : List NodeRecord). IsConditionReachedOn conditions which c event) (same_Some chip (chip_of t) (sym led ∙ there)) is;
+  reached = subst (λ (c : List NodeRecord). IsConditionReachedOnChip conditions which c event) (same_Some chip (chip_of_machine t) (sym led ∙ there)) is;
   report = report;
   leads = leads;
 }
 
 -- the events of a session can be made, and then its last
 pub session_can : (load : List NodeRecord) (conditions : List StateCondition) (which : ℕ) (events : List Event) (event : Event)
-    → ((chip : List NodeRecord) × (replay load events ≡ Some chip) × IsConditionReachedOn conditions which chip event) → IsSome (replay load events)
+    → ((chip : List NodeRecord) × (replay load events ≡ Some chip) × IsConditionReachedOnChip conditions which chip event) → IsSome (replay load events)
 session_can load conditions which events event it = subst (λ (o : Option (List NodeRecord)). IsSome o) (sym it.1) refl
 
 pub last_can : (load there : List NodeRecord) (conditions : List StateCondition) (which : ℕ) (events : List Event) (event : Event)
-    → ((chip : List NodeRecord) × (replay load events ≡ Some chip) × IsConditionReachedOn conditions which chip event) → replay load events ≡ Some there → IsEnabled there event
+    → ((chip : List NodeRecord) × (replay load events ≡ Some chip) × IsConditionReachedOnChip conditions which chip event) → replay load events ≡ Some there → IsEnabled there event
 last_can load there conditions which events event it led = subst (λ (c : List NodeRecord). IsEnabled c event) (same_Some it.0 there (sym it.1 ∙ led)) it.2.enabled
 
-pub reached_result : (s t u : State) (conditions : List StateCondition) (which : ℕ) (events : List Event) (event : Event) (result : Result Made LabFault)
-    → ((chip : List NodeRecord) × (replay (chip_of s) events ≡ Some chip) × IsConditionReachedOn conditions which chip event) → HasAppendedEvents s events t
-    → replay (chip_of s) events ≡ Some (chip_of t) → IfOk result (λ made. made ≡ made_next_event t event) → OnOk result (u ≡ with_event t (Ok event))
+pub reached_result : (s t u : MachineState) (conditions : List StateCondition) (which : ℕ) (events : List Event) (event : Event) (result : Result MadeEvent LabFault)
+    → ((chip : List NodeRecord) × (replay (chip_of_machine s) events ≡ Some chip) × IsConditionReachedOnChip conditions which chip event) → HasAppendedEvents s events t
+    → replay (chip_of_machine s) events ≡ Some (chip_of_machine t) → IfOk result (λ made. made ≡ made_next_event t event) → OnOk result (u ≡ machine_with_event t (Ok event))
     → IfOk result (λ made. HasReachedEvent conditions which s u made)
 reached_result s t u conditions which events event (Ok made) it appended there report leads =
     reached_by s t u conditions which events event it.0 made it.1 it.2 appended there report leads

@@ -6,9 +6,9 @@ use Rattle.ga_state_ends.specs.Decisions.{EndDecision, IsEndDecided}
 use Rattle.ga_state_ends.specs.Ends.{EndSearchResult}
 use Rattle.ga_state_expectations.specs.declared.expectation.NodeExpectation.{NodeExpectation}
 use Rattle.ga_state_expectations.specs.declared.source.Expectation.{Expectation}
-use Rattle.ga_state_expectations.specs.declared.source.Expectation.TheVariants.{AtEnds, Never, Passes, EveryOrderEnds, OneEnd}
+use Rattle.ga_state_expectations.specs.declared.source.Expectation.TheVariants.{NodeAtEveryEnd, Never, LinkPassesWords, EveryOrderEnds, OneEnd}
 use Rattle.ga_state_expectations.specs.declared.source.LineExpectation.{LineExpectation}
-use Rattle.ga_state_expectations.specs.Meeting.{CanMeetExpectationAtEnd}
+use Rattle.ga_state_expectations.specs.Meeting.{CanReachEndMeetingExpectation}
 use Rattle.ga_check_report.specs.declared.outcome.Breach.{Breach}
 use Rattle.ga_check_report.specs.declared.outcome.Breach.TheVariants.{Unmet, Reached, OverLink, Endless, SeveralEnds}
 use Rattle.ga_check_report.specs.declared.outcome.ExpectationOutcome.{ExpectationOutcome}
@@ -22,31 +22,31 @@ breach_state (OverLink place fault) = None
 breach_state Endless = None
 breach_state (SeveralEnds ends) = None
 
-abbrev pub state_of_unmet_expectation : ExpectationOutcome → Option ℕ
-state_of_unmet_expectation Holds = None
-state_of_unmet_expectation (Broken breach) = breach_state breach
-state_of_unmet_expectation Unknown = None
+abbrev pub breach_state_of_outcome : ExpectationOutcome → Option ℕ
+breach_state_of_outcome Holds = None
+breach_state_of_outcome (Broken breach) = breach_state breach
+breach_state_of_outcome Unknown = None
 
 -- what decides that the expectation isn't met on the state; nothing is said to where the search was cut
-abbrev pub IsUnmetExpectationDecided : EndSearchResult → NodeExpectation → ℕ → Option SearchFault → Option EndDecision → Type 0
-IsUnmetExpectationDecided found expectation state None decision = IsEndDecided found.searched (CanMeetExpectationAtEnd found expectation) state decision
-IsUnmetExpectationDecided found expectation state (Some fault) decision = decision ≡ None
+abbrev pub IsDecisionOfUnmetExpectation : EndSearchResult → NodeExpectation → ℕ → Option SearchFault → Option EndDecision → Type 0
+IsDecisionOfUnmetExpectation found expectation state None decision = IsEndDecided found.searched (CanReachEndMeetingExpectation found expectation) state decision
+IsDecisionOfUnmetExpectation found expectation state (Some fault) decision = decision ≡ None
 
-abbrev pub IsNodeBreachDecided : EndSearchResult → NodeExpectation → Option ℕ → Option EndDecision → Type 0
-IsNodeBreachDecided found expectation None decision = decision ≡ None
-IsNodeBreachDecided found expectation (Some state) decision = IsUnmetExpectationDecided found expectation state found.fault decision
+abbrev pub IsDecisionOfNodeBreach : EndSearchResult → NodeExpectation → Option ℕ → Option EndDecision → Type 0
+IsDecisionOfNodeBreach found expectation None decision = decision ≡ None
+IsDecisionOfNodeBreach found expectation (Some state) decision = IsDecisionOfUnmetExpectation found expectation state found.fault decision
 
 -- what decides that an expectation is broken, of which this is known
-abbrev pub IsBreachDecided : EndSearchResult → Expectation → ExpectationOutcome → Option EndDecision → Type 0
-IsBreachDecided found (AtEnds expectation) outcome decision = IsNodeBreachDecided found expectation (state_of_unmet_expectation outcome) decision
-IsBreachDecided found (Never conditions) outcome decision = decision ≡ None
-IsBreachDecided found (Passes expectation) outcome decision = decision ≡ None
-IsBreachDecided found EveryOrderEnds outcome decision = decision ≡ None
-IsBreachDecided found OneEnd outcome decision = decision ≡ None
+abbrev pub IsDecisionOfBreach : EndSearchResult → Expectation → ExpectationOutcome → Option EndDecision → Type 0
+IsDecisionOfBreach found (NodeAtEveryEnd expectation) outcome decision = IsDecisionOfNodeBreach found expectation (breach_state_of_outcome outcome) decision
+IsDecisionOfBreach found (Never conditions) outcome decision = decision ≡ None
+IsDecisionOfBreach found (LinkPassesWords expectation) outcome decision = decision ≡ None
+IsDecisionOfBreach found EveryOrderEnds outcome decision = decision ≡ None
+IsDecisionOfBreach found OneEnd outcome decision = decision ≡ None
 
 -- Each expectation has what decides that it is broken, if something does.
-pub record AreBreachesDecided (found : EndSearchResult) (expectations : List LineExpectation) (outcomes : List ExpectationOutcome)
+pub record AreDecisionsOfBreaches (found : EndSearchResult) (expectations : List LineExpectation) (outcomes : List ExpectationOutcome)
     (decisions : List (Option EndDecision)) : Type 0 where
   pub size : length decisions ≡ length expectations
   pub decided : (place : ℕ) (one : LineExpectation) → slice_get expectations place ≡ Some one
-      → IsBreachDecided found one.expectation (slice_index_or outcomes place Unknown) (slice_index_or decisions place None)
+      → IsDecisionOfBreach found one.expectation (slice_index_or outcomes place Unknown) (slice_index_or decisions place None)

@@ -15,61 +15,61 @@ use Rattle.ga_check_report.specs.declared.outcome.Breach.{Breach}
 use Rattle.ga_check_report.specs.declared.outcome.Breach.TheVariants.{Unmet, Reached, OverLink, Endless, SeveralEnds}
 use Rattle.ga_check_report.specs.declared.outcome.ExpectationOutcome.{ExpectationOutcome}
 use Rattle.ga_check_report.specs.declared.outcome.ExpectationOutcome.TheVariants.{Holds, Broken, Unknown}
-use Rattle.ga_check_report.specs.ExpectationTexts.{side_words}
-use Rattle.ga_check_report.specs.JsonValues.{optional_text_json, search_fields}
-use Rattle.ga_check_report.specs.EventJson.{event_details}
-use Rattle.ga_check_report.specs.LinkFaults.{link_fault_word, link_fault_details}
-use Rattle.ga_check_report.specs.EndJson.{decision_objects}
+use Rattle.ga_check_report.specs.ExpectationTexts.{side_names_after_blanks}
+use Rattle.ga_check_report.specs.JsonValues.{optional_text_json, search_result_fields}
+use Rattle.ga_check_report.specs.EventJson.{event_detail_fields}
+use Rattle.ga_check_report.specs.LinkFaults.{link_fault_keyword, link_fault_detail_fields}
+use Rattle.ga_check_report.specs.EndJson.{decision_json_objects_text}
 
 -- ---- what a node holds or does
 
 -- sides with a blank between two
 abbrev pub side_list_text : ℕ → Text
-side_list_text sides = drop 1 (side_words sides)
+side_list_text sides = drop 1 (side_names_after_blanks sides)
 
-abbrev pub observation_word : NodeObservation → Text
-observation_word (Is word) = codes "value"
-observation_word Runs = codes "runs"
-observation_word AwaitsCode = codes "awaits code"
-observation_word (Reads sides) = codes "reads"
-observation_word (Writes side) = codes "writes"
-observation_word (Stopped stop) = codes "stop"
+abbrev pub observation_keyword : NodeObservation → Text
+observation_keyword (Is word) = codes "value"
+observation_keyword Runs = codes "runs"
+observation_keyword AwaitsCode = codes "awaits code"
+observation_keyword (Reads sides) = codes "reads"
+observation_keyword (Writes side) = codes "writes"
+observation_keyword (Stopped stop) = codes "stop"
 
-abbrev pub observation_sides : NodeObservation → Text
-observation_sides (Is word) = []
-observation_sides Runs = []
-observation_sides AwaitsCode = []
-observation_sides (Reads sides) = side_list_text sides
-observation_sides (Writes side) = side_list_text (single_side_set side)
-observation_sides (Stopped stop) = []
+abbrev pub awaited_sides_of_observation_text : NodeObservation → Text
+awaited_sides_of_observation_text (Is word) = []
+awaited_sides_of_observation_text Runs = []
+awaited_sides_of_observation_text AwaitsCode = []
+awaited_sides_of_observation_text (Reads sides) = side_list_text sides
+awaited_sides_of_observation_text (Writes side) = side_list_text (single_side_set side)
+awaited_sides_of_observation_text (Stopped stop) = []
 
-abbrev pub observation_details : NodeObservation → List NamedValue
-observation_details (Is word) = (codes "value", number (pos word)) ∷ []
-observation_details Runs = []
-observation_details AwaitsCode = []
-observation_details (Reads sides) = (codes "sides", string (observation_sides (Reads sides))) ∷ []
-observation_details (Writes side) = (codes "sides", string (observation_sides (Writes side))) ∷ []
-observation_details (Stopped stop) = (codes "stop", number (pos stop)) ∷ []
+abbrev pub observation_detail_fields : NodeObservation → List NamedValue
+observation_detail_fields (Is word) = (codes "value", number (pos word)) ∷ []
+observation_detail_fields Runs = []
+observation_detail_fields AwaitsCode = []
+observation_detail_fields (Reads sides) = (codes "sides", string (awaited_sides_of_observation_text (Reads sides))) ∷ []
+observation_detail_fields (Writes side) = (codes "sides", string (awaited_sides_of_observation_text (Writes side))) ∷ []
+observation_detail_fields (Stopped stop) = (codes "stop", number (pos stop)) ∷ []
 
 -- ---- what is known of an expectation
 
-abbrev pub outcome_word : ExpectationOutcome → Text
-outcome_word Holds = codes "holds"
-outcome_word (Broken breach) = codes "broken"
-outcome_word Unknown = codes "unknown"
+abbrev pub outcome_keyword : ExpectationOutcome → Text
+outcome_keyword Holds = codes "holds"
+outcome_keyword (Broken breach) = codes "broken"
+outcome_keyword Unknown = codes "unknown"
 
 -- what breaks it, in a word
-abbrev pub breach_word : Breach → Text
-breach_word (Unmet state observation) = observation_word observation
-breach_word (Reached made) = codes "event"
-breach_word (OverLink place fault) = link_fault_word fault
-breach_word Endless = codes "endless"
-breach_word (SeveralEnds ends) = codes "ends"
+abbrev pub breach_keyword : Breach → Text
+breach_keyword (Unmet state observation) = observation_keyword observation
+breach_keyword (Reached made) = codes "event"
+breach_keyword (OverLink place fault) = link_fault_keyword fault
+breach_keyword Endless = codes "endless"
+breach_keyword (SeveralEnds ends) = codes "ends"
 
-abbrev pub outcome_cause : ExpectationOutcome → Option Text
-outcome_cause Holds = None
-outcome_cause (Broken breach) = Some (breach_word breach)
-outcome_cause Unknown = None
+abbrev pub outcome_breach_keyword : ExpectationOutcome → Option Text
+outcome_breach_keyword Holds = None
+outcome_breach_keyword (Broken breach) = Some (breach_keyword breach)
+outcome_breach_keyword Unknown = None
 
 -- the number of the session that leads to what breaks the expectation of this number, if one does
 abbrev pub breach_session_number : ℕ → Breach → Option ℕ
@@ -84,46 +84,46 @@ outcome_session_number place Holds = None
 outcome_session_number place (Broken breach) = breach_session_number place breach
 outcome_session_number place Unknown = None
 
-abbrev pub breach_details : Breach → List NamedValue
-breach_details (Unmet state observation) = observation_details observation
-breach_details (Reached made) = event_details made
-breach_details (OverLink place fault) = link_fault_details place fault
-breach_details Endless = []
-breach_details (SeveralEnds ends) = (codes "ends", number (pos ends)) ∷ []
+abbrev pub breach_detail_fields : Breach → List NamedValue
+breach_detail_fields (Unmet state observation) = observation_detail_fields observation
+breach_detail_fields (Reached made) = event_detail_fields made
+breach_detail_fields (OverLink place fault) = link_fault_detail_fields place fault
+breach_detail_fields Endless = []
+breach_detail_fields (SeveralEnds ends) = (codes "ends", number (pos ends)) ∷ []
 
-abbrev pub outcome_details : ExpectationOutcome → List NamedValue
-outcome_details Holds = []
-outcome_details (Broken breach) = breach_details breach
-outcome_details Unknown = []
+abbrev pub outcome_detail_fields : ExpectationOutcome → List NamedValue
+outcome_detail_fields Holds = []
+outcome_detail_fields (Broken breach) = breach_detail_fields breach
+outcome_detail_fields Unknown = []
 
 -- ---- the object of the expectation of this number, from 1 on, in this line with these words
 
 abbrev pub expectation_fields : Text → ℕ → ℕ → Text → ExpectationOutcome → List NamedValue
 expectation_fields file place line words outcome =
     (codes "answer", string (codes "expectation")) ∷ (codes "file", text_json file) ∷ (codes "number", number (pos place)) ∷ (codes "line", number (pos line))
-    ∷ (codes "text", text_json words) ∷ (codes "outcome", string (outcome_word outcome)) ∷ (codes "because", optional_text_json (outcome_cause outcome))
+    ∷ (codes "text", text_json words) ∷ (codes "outcome", string (outcome_keyword outcome)) ∷ (codes "because", optional_text_json (outcome_breach_keyword outcome))
     ∷ (codes "session", optional_number_json (outcome_session_number place outcome)) ∷ []
 
 abbrev pub expectation_object : Text → ℕ → ℕ → Text → ExpectationOutcome → JsonValue
-expectation_object file place line words outcome = json_object (expectation_fields file place line words outcome ++ outcome_details outcome)
+expectation_object file place line words outcome = json_object (expectation_fields file place line words outcome ++ outcome_detail_fields outcome)
 
 -- and those of what decides that it is broken
-abbrev pub decided_expectation_objects : Text → ℕ → LineExpectation → ExpectationOutcome → Option EndDecision → Text
-decided_expectation_objects file place one outcome decision =
-    json_line (expectation_object file place one.line one.text.items outcome) ++ decision_objects file place decision
+abbrev pub expectation_with_decision_objects : Text → ℕ → LineExpectation → ExpectationOutcome → Option EndDecision → Text
+expectation_with_decision_objects file place one outcome decision =
+    json_line (expectation_object file place one.line one.text.items outcome) ++ decision_json_objects_text file place decision
 
 -- the objects of the expectations from this place on
 abbrev pub expectation_objects : Text → List ExpectationOutcome → List (Option EndDecision) → ℕ → List LineExpectation → Text
 expectation_objects file outcomes decisions place [] = []
 expectation_objects file outcomes decisions place (one ∷ others) =
-    decided_expectation_objects file (place + 1) one (slice_index_or outcomes place Unknown) (slice_index_or decisions place None)
+    expectation_with_decision_objects file (place + 1) one (slice_index_or outcomes place Unknown) (slice_index_or decisions place None)
     ++ expectation_objects file outcomes decisions (place + 1) others
 
 -- ---- the whole answer
 
-abbrev pub expectations_head : Text → EndSearchResult → ℕ → List NamedValue
-expectations_head file found count = search_fields (codes "expectations") file found ++ (codes "expectations", number (pos count)) ∷ []
+abbrev pub expectations_head_fields : Text → EndSearchResult → ℕ → List NamedValue
+expectations_head_fields file found count = search_result_fields (codes "expectations") file found ++ (codes "expectations", number (pos count)) ∷ []
 
 abbrev pub expectations_json : Text → EndSearchResult → List LineExpectation → List ExpectationOutcome → List (Option EndDecision) → Text
 expectations_json file found expectations outcomes decisions =
-    json_line (json_object (expectations_head file found (length expectations))) ++ expectation_objects file outcomes decisions 0 expectations
+    json_line (json_object (expectations_head_fields file found (length expectations))) ++ expectation_objects file outcomes decisions 0 expectations

@@ -1,7 +1,7 @@
 -- What `ga144 check` prints of the expectations of a program (docs/REFERENCE.md, "Every expectation"; this project's own): the numbers of states and
 -- of expectations, the line of each with what decides that it is broken, and which bound was met.
 use Rattle.std.specs.Prelude.{ℕ, ◌+◌, Bool, true, false, List, [], ◌∷◌, ◌++◌, length, codes, decimal, slice_index_or, Option, Some, None}
-use Rattle.ga_word.specs.Word.{hex6_of}
+use Rattle.ga_word.specs.Word.{hex_digits_of_word}
 use Rattle.ga_ports.specs.Address.{single_side_set, has_side}
 use Rattle.ga_ports.specs.declared.side.Side.TheVariants as side
 use Rattle.ga_text.specs.Lines.{Text}
@@ -27,17 +27,17 @@ optional_side_text true name = name
 optional_side_text false name = []
 
 -- the sides of a set, each after a blank
-abbrev pub side_words : ℕ → Text
-side_words sides =
+abbrev pub side_names_after_blanks : ℕ → Text
+side_names_after_blanks sides =
     optional_side_text (has_side sides side.Right) (codes " right") ++ optional_side_text (has_side sides side.Down) (codes " down")
     ++ optional_side_text (has_side sides side.Left) (codes " left") ++ optional_side_text (has_side sides side.Up) (codes " up")
 
 abbrev pub observation_text : NodeObservation → Text
-observation_text (Is word) = codes "is " ++ hex6_of word
+observation_text (Is word) = codes "is " ++ hex_digits_of_word word
 observation_text Runs = codes "runs"
 observation_text AwaitsCode = codes "waits for code"
-observation_text (Reads sides) = codes "waits to read" ++ side_words sides
-observation_text (Writes side) = codes "waits to write" ++ side_words (single_side_set side)
+observation_text (Reads sides) = codes "waits to read" ++ side_names_after_blanks sides
+observation_text (Writes side) = codes "waits to write" ++ side_names_after_blanks (single_side_set side)
 observation_text (Stopped stop) = codes "stop " ++ decimal stop
 
 -- ---- the line of an expectation, which has this number, from 1 on
@@ -67,14 +67,14 @@ abbrev pub expectation_line : Bool → ℕ → LineExpectation → ExpectationOu
 expectation_line whole number one outcome = expectation_line_start one.line ++ one.text.items ++ outcome_text whole number outcome
 
 -- and what decides that it is broken
-abbrev pub decided_expectation_line : Bool → ℕ → LineExpectation → ExpectationOutcome → Option EndDecision → Text
-decided_expectation_line whole number one outcome decision = expectation_line whole number one outcome ++ end_decision_text decision
+abbrev pub expectation_with_decision_lines : Bool → ℕ → LineExpectation → ExpectationOutcome → Option EndDecision → Text
+expectation_with_decision_lines whole number one outcome decision = expectation_line whole number one outcome ++ end_decision_text decision
 
 -- the lines of the expectations from this place on
 abbrev pub expectations_lines_text : Bool → List ExpectationOutcome → List (Option EndDecision) → ℕ → List LineExpectation → Text
 expectations_lines_text whole outcomes decisions place [] = []
 expectations_lines_text whole outcomes decisions place (one ∷ others) =
-    decided_expectation_line whole (place + 1) one (slice_index_or outcomes place Unknown) (slice_index_or decisions place None)
+    expectation_with_decision_lines whole (place + 1) one (slice_index_or outcomes place Unknown) (slice_index_or decisions place None)
     ++ expectations_lines_text whole outcomes decisions (place + 1) others
 
 -- ---- the whole answer
@@ -97,8 +97,8 @@ expectations_text request found expectations outcomes decisions =
 -- ---- no session
 
 -- there are fewer expectations
-abbrev pub missing_session_text : ℕ → ℕ → Text
-missing_session_text asked expectations =
+abbrev pub no_such_expectation_text : ℕ → ℕ → Text
+no_such_expectation_text asked expectations =
     codes "no session " ++ decimal asked ++ codes ": " ++ counted_noun_text expectations (codes " expectation") ++ codes "\n"
 
 -- nothing breaks the expectation of this number that a session leads to: its line

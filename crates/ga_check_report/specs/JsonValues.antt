@@ -15,18 +15,18 @@ optional_text_json None = null
 optional_text_json (Some text) = string text
 
 -- the bound that was met, in a word
-abbrev pub search_stop_word : SearchFault → Text
-search_stop_word fault.Full = codes "states"
-search_stop_word fault.Stopped = codes "seconds"
-search_stop_word fault.Memory = codes "memory"
-search_stop_word fault.ExceedsAssumptions = codes "restarts"
+abbrev pub search_stop_keyword : SearchFault → Text
+search_stop_keyword fault.Full = codes "states"
+search_stop_keyword fault.Stopped = codes "seconds"
+search_stop_keyword fault.Memory = codes "memory"
+search_stop_keyword fault.ExceedsAssumptions = codes "restarts"
 
 abbrev pub search_stop_json : Option SearchFault → JsonValue
 search_stop_json None = null
-search_stop_json (Some why) = string (search_stop_word why)
+search_stop_json (Some why) = string (search_stop_keyword why)
 
 -- what an answer with this name says of the search: the number of states, whether each was explored, and which bound was met
-abbrev pub search_fields : Text → Text → EndSearchResult → List NamedValue
-search_fields answer file found =
+abbrev pub search_result_fields : Text → Text → EndSearchResult → List NamedValue
+search_result_fields answer file found =
     (codes "answer", string answer) ∷ (codes "file", text_json file) ∷ (codes "states", number (pos (length found.searched.chips)))
     ∷ (codes "explored", boolean (is_fully_explored found.fault)) ∷ (codes "stopped", search_stop_json found.fault) ∷ []

@@ -1,6 +1,6 @@
 -- How the words over a link break an expectation, as `ga144 check` prints it (docs/REFERENCE.md, "Every expectation"; docs/JSON.md; this project's own).
 use Rattle.std.specs.Prelude.{ℕ, ◌+◌, ◌%◌, pos, List, [], ◌∷◌, ◌++◌, codes, decimal}
-use Rattle.ga_word.specs.Word.{word_modulus, hex6_of}
+use Rattle.ga_word.specs.Word.{word_modulus, hex_digits_of_word}
 use Rattle.ga_text.specs.Lines.{Text}
 use Rattle.ga_json.specs.Values.{number}
 use Rattle.ga_json.specs.Fields.{NamedValue}
@@ -9,18 +9,18 @@ use Rattle.ga_state_links.specs.declared.expectation.LinkFault.TheVariants.{Othe
 
 -- after this number of words that came as expected
 abbrev pub link_fault_text : ℕ → LinkFault → Text
-link_fault_text place (OtherWord word) = codes "word " ++ decimal (place + 1) ++ codes " is " ++ hex6_of (word % word_modulus)
-link_fault_text place (ExtraWord word) = codes "a further word is " ++ hex6_of (word % word_modulus)
+link_fault_text place (OtherWord word) = codes "word " ++ decimal (place + 1) ++ codes " is " ++ hex_digits_of_word (word % word_modulus)
+link_fault_text place (ExtraWord word) = codes "a further word is " ++ hex_digits_of_word (word % word_modulus)
 link_fault_text place MissingWord = codes "word " ++ decimal (place + 1) ++ codes " never comes"
 
 -- the same in a word
-abbrev pub link_fault_word : LinkFault → Text
-link_fault_word (OtherWord word) = codes "word"
-link_fault_word (ExtraWord word) = codes "further word"
-link_fault_word MissingWord = codes "no word"
+abbrev pub link_fault_keyword : LinkFault → Text
+link_fault_keyword (OtherWord word) = codes "word"
+link_fault_keyword (ExtraWord word) = codes "further word"
+link_fault_keyword MissingWord = codes "no word"
 
 -- the number of the word, from 1 on, and the word that came, if one did
-abbrev pub link_fault_details : ℕ → LinkFault → List NamedValue
-link_fault_details place (OtherWord word) = (codes "place", number (pos (place + 1))) ∷ (codes "value", number (pos word)) ∷ []
-link_fault_details place (ExtraWord word) = (codes "place", number (pos (place + 1))) ∷ (codes "value", number (pos word)) ∷ []
-link_fault_details place MissingWord = (codes "place", number (pos (place + 1))) ∷ []
+abbrev pub link_fault_detail_fields : ℕ → LinkFault → List NamedValue
+link_fault_detail_fields place (OtherWord word) = (codes "place", number (pos (place + 1))) ∷ (codes "value", number (pos word)) ∷ []
+link_fault_detail_fields place (ExtraWord word) = (codes "place", number (pos (place + 1))) ∷ (codes "value", number (pos word)) ∷ []
+link_fault_detail_fields place MissingWord = (codes "place", number (pos (place + 1))) ∷ []

@@ -12,25 +12,25 @@ use Rattle.ga_check_report.specs.declared.outcome.NodeObservation.{NodeObservati
 use Rattle.ga_check_report.specs.declared.outcome.NodeObservation.TheVariants.{Is, Runs, AwaitsCode, Reads, Writes, Stopped}
 
 -- what a node does that waits so and isn't stopped
-abbrev pub observation_by_wait : Wait → NodeObservation
-observation_by_wait Nothing = Runs
-observation_by_wait (Fetch sides) = AwaitsCode
-observation_by_wait (Read sides) = Reads sides
-observation_by_wait (Write side) = Writes side
+abbrev pub observation_of_wait : Wait → NodeObservation
+observation_of_wait Nothing = Runs
+observation_of_wait (Fetch sides) = AwaitsCode
+observation_of_wait (Read sides) = Reads sides
+observation_of_wait (Write side) = Writes side
 
 -- the same by the number of its stop, which is 0 if it isn't stopped
-abbrev pub observation_by_stop : ℕ → Wait → NodeObservation
-observation_by_stop zero wait = observation_by_wait wait
-observation_by_stop (suc k) wait = Stopped (suc k)
+abbrev pub observation_of_stop_or_wait : ℕ → Wait → NodeObservation
+observation_of_stop_or_wait zero wait = observation_of_wait wait
+observation_of_stop_or_wait (suc k) wait = Stopped (suc k)
 
 -- what a node does
-abbrev pub observed_action : NodeRecord → NodeObservation
-observed_action node = observation_by_stop node.stop node.wait
+abbrev pub observed_node_activity : NodeRecord → NodeObservation
+observed_node_activity node = observation_of_stop_or_wait node.stop node.wait
 
 -- what it has of what is required: the value that is tested, as a word, or else what it does
-abbrev pub observation_of_node : NodeRequirement → NodeRecord → NodeObservation
-observation_of_node (required.Holds test) node = Is (node_value node 0 test.value % word_modulus)
-observation_of_node (required.Reads sides) node = observed_action node
-observation_of_node (required.Writes side) node = observed_action node
-observation_of_node required.AwaitsCode node = observed_action node
-observation_of_node (required.Stopped number) node = observed_action node
+abbrev pub observation_for_requirement : NodeRequirement → NodeRecord → NodeObservation
+observation_for_requirement (required.PassesValueTest test) node = Is (node_value node 0 test.value % word_modulus)
+observation_for_requirement (required.ReadsFromSides sides) node = observed_node_activity node
+observation_for_requirement (required.WritesToSide side) node = observed_node_activity node
+observation_for_requirement required.AwaitsCode node = observed_node_activity node
+observation_for_requirement (required.Stopped number) node = observed_node_activity node

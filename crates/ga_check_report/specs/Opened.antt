@@ -6,7 +6,7 @@ use Rattle.ga_text.specs.Output.{TextHasPrefix}
 use Rattle.ga_console.specs.declared.run.Status.{Status}
 use Rattle.ga_console.specs.declared.run.Status.TheVariants.{StreamFault}
 use Rattle.ga_text.specs.Input.{UnreadInput}
-use Rattle.ga_explorer.specs.Opening.{ExplorerState, IsSessionOpened, IsUnopenedSession}
+use Rattle.ga_explorer.specs.Opening.{ExplorerState, IsSessionOpenResult, IsUnopenedSession}
 use Rattle.ga_json.specs.declared.format.ReportFormat.{ReportFormat}
 use Rattle.ga_json.specs.declared.format.ReportFormat.TheVariants as format
 use Rattle.ga_json.specs.Diagnostics.{diagnostics_json}
@@ -16,17 +16,17 @@ abbrev pub IsWrittenWithStatus : Text → Status → Text → Status → Type 0
 IsWrittenWithStatus whole status written end = ((written ≡ whole) × (end ≡ status)) ⊎ (TextHasPrefix whole written × (end ≡ StreamFault))
 
 -- an object for each line of the reason, and of what standard error has
-abbrev pub HasRefusalObjects : Option Text → Text → Bytes → Bytes → Text → Status → Type 0
-HasRefusalObjects chip file read rest written end =
+abbrev pub HasRefusalJsonObjects : Option Text → Text → Bytes → Bytes → Text → Status → Type 0
+HasRefusalJsonObjects chip file read rest written end =
     (reason told : Text) × (status : Status) × IsUnopenedSession chip read rest reason status
     × IsWrittenWithStatus (diagnostics_json file reason ++ diagnostics_json file told) status written end
 
 -- the reason as text, and what standard error has
-abbrev pub IsUnopenedAnswer : ReportFormat → Bytes → Bytes → Text → Status → Type 0
-IsUnopenedAnswer format.Text read rest written end = IsUnopenedSession None read rest written end
-IsUnopenedAnswer (format.Json file) read rest written end = HasRefusalObjects None file.now read rest written end
+abbrev pub IsUnopenedProgramAnswer : ReportFormat → Bytes → Bytes → Text → Status → Type 0
+IsUnopenedProgramAnswer format.Text read rest written end = IsUnopenedSession None read rest written end
+IsUnopenedProgramAnswer (format.Json file) read rest written end = HasRefusalJsonObjects None file.now read rest written end
 
 -- A text was taken of what was left to read, and a machine opened on it; or no session begins, and there are such objects.
-abbrev pub IsOpenedForJsonOutput : Option Text → Text → ℕ → Bytes → UnreadInput → Bytes → Text → Result ExplorerState Status → Type 0
-IsOpenedForJsonOutput chip file limit left input rest written (Ok begun) = IsSessionOpened chip limit left input rest written (Ok begun)
-IsOpenedForJsonOutput chip file limit left input rest written (Err status) = (read : Bytes) × (left ≡ read ++ rest) × HasRefusalObjects chip file read rest written status
+abbrev pub IsJsonSessionOpenResult : Option Text → Text → ℕ → Bytes → UnreadInput → Bytes → Text → Result ExplorerState Status → Type 0
+IsJsonSessionOpenResult chip file limit left input rest written (Ok begun) = IsSessionOpenResult chip limit left input rest written (Ok begun)
+IsJsonSessionOpenResult chip file limit left input rest written (Err status) = (read : Bytes) × (left ≡ read ++ rest) × HasRefusalJsonObjects chip file read rest written status

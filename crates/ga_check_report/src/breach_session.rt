@@ -2,14 +2,14 @@
 
 ghost use Rattle.std.specs.Prelude.{◌≡◌, ◌≤◌, ◌⊎◌, length, IfErr, OnOk, IfSome, IfNone};
 ghost use Rattle.ga_text.specs.Output.{WritesExactly, WritesText};
-ghost use Rattle.ga_lab.specs.Machine.{chip_of};
+ghost use Rattle.ga_lab.specs.Machine.{chip_of_machine};
 ghost use Rattle.ga_lab.specs.declared.fault.LabFault.TheVariants.{Memory, Full};
 ghost use Rattle.ga_state_ends.specs.Ends.{AreEndsOfChip};
 ghost use Rattle.ga_state_conditions.specs.Reached.{IsReachedEvent, HasNoReachedEvent};
 ghost use Rattle.ga_state_expectations.specs.Unmet.{IsExpectationUnmetAt, IsFirstUnmetState};
-ghost use Rattle.ga_state_expectations.specs.declared.source.Expectation.TheVariants.{AtEnds, Never};
-ghost use Rattle.ga_check_report.specs.inner.{IsNeverOf, WritesSessionOf};
-ghost use Rattle.ga_check_report.specs.Checking.{IsWrittenWithVerdict};
+ghost use Rattle.ga_state_expectations.specs.declared.source.Expectation.TheVariants.{NodeAtEveryEnd, Never};
+ghost use Rattle.ga_check_report.specs.inner.{IsNeverOfConditions, WritesSessionOfExpectation};
+ghost use Rattle.ga_check_report.specs.Checking.{IsWrittenWithVerdictOrFails};
 ghost use Rattle.ga_check_report.specs.ExpectationTexts.{unbroken_expectation_text};
 ghost use Rattle.ga_check_report.specs.Expected.{unbroken_expectation_verdict, LeadsToBreach};
 ghost use Rattle.ga_check_report.specs.EndTexts.{is_fully_explored};
@@ -28,7 +28,7 @@ use ga_lab::{Lab, LabFault};
 use ga_state_conditions::{ReachedEvent, StateCondition, StateConditions, find_reached_event};
 use ga_state_ends::FoundEnds;
 use ga_state_expectations::{
-    Expectation, LineExpectation, NodeExpectation, find_unmet_expectation,
+    Expectation, LineExpectation, NodeExpectation, find_unmet_expectation_state,
 };
 use ga_text::{WriteResult, Writer};
 use std::alloc::Global;
@@ -44,17 +44,17 @@ pub(crate) fn tell_one<W: Write>(
     asked: u32,
     writer: &mut W,
 ) -> Verdict
-    requires { AreEndsOfChip (chip_of lab.old) found.old }
-    ensures { WritesText (λ text. WritesSessionOf request.entry one.now asked lab.old text result) (W.contents writer.old) (W.contents writer.new) }
+    requires { AreEndsOfChip (chip_of_machine lab.old) found.old }
+    ensures { WritesText (λ text. WritesSessionOfExpectation request.entry one.now asked lab.old text result) (W.contents writer.old) (W.contents writer.new) }
 {
     match &one.expectation {
-        Expectation::AtEnds(expectation) => {
+        Expectation::NodeAtEveryEnd(expectation) => {
             tell_unmet(alloc, lab, found, one, expectation, request, asked, writer)
         }
         Expectation::Never(conditions) => {
             tell_never(alloc, lab, found, one, conditions, request, asked, writer)
         }
-        Expectation::Passes(expected) => {
+        Expectation::LinkPassesWords(expected) => {
             tell_link(alloc, lab, found, one, expected, request, asked, writer)
         }
         Expectation::EveryOrderEnds => {
@@ -75,11 +75,11 @@ fn tell_unmet<W: Write>(
     asked: u32,
     writer: &mut W,
 ) -> Verdict
-    requires ends { AreEndsOfChip (chip_of lab.old) found.old }
-    requires said { one.now.expectation ≡ AtEnds expectation.now }
-    ensures { WritesText (λ text. WritesSessionOf request.entry one.now asked lab.old text result) (W.contents writer.old) (W.contents writer.new) }
+    requires ends { AreEndsOfChip (chip_of_machine lab.old) found.old }
+    requires said { one.now.expectation ≡ NodeAtEveryEnd expectation.now }
+    ensures { WritesText (λ text. WritesSessionOfExpectation request.entry one.now asked lab.old text result) (W.contents writer.old) (W.contents writer.new) }
 {
-    match find_unmet_expectation(alloc, found, expectation) {
+    match find_unmet_expectation_state(alloc, found, expectation) {
         Ok(unmet) => tell_by_state(
             alloc,
             lab,
@@ -107,10 +107,10 @@ fn tell_by_state<W: Write>(
     asked: u32,
     writer: &mut W,
 ) -> Verdict
-    requires ends { AreEndsOfChip (chip_of lab.old) found.now }
-    requires said { one.now.expectation ≡ AtEnds expectation.now }
+    requires ends { AreEndsOfChip (chip_of_machine lab.old) found.now }
+    requires said { one.now.expectation ≡ NodeAtEveryEnd expectation.now }
     requires unmet { IsFirstUnmetState found.now expectation.now unmet }
-    ensures { WritesText (λ text. WritesSessionOf request.entry one.now asked lab.old text result) (W.contents writer.old) (W.contents writer.new) }
+    ensures { WritesText (λ text. WritesSessionOfExpectation request.entry one.now asked lab.old text result) (W.contents writer.old) (W.contents writer.new) }
 {
     match unmet {
         Some(state) => tell_path(
@@ -140,13 +140,13 @@ fn tell_path<W: Write>(
     asked: u32,
     writer: &mut W,
 ) -> Verdict
-    requires ends { AreEndsOfChip (chip_of lab.old) found.now }
-    requires said { one.now.expectation ≡ AtEnds expectation.now }
+    requires ends { AreEndsOfChip (chip_of_machine lab.old) found.now }
+    requires said { one.now.expectation ≡ NodeAtEveryEnd expectation.now }
     requires unmet { IsExpectationUnmetAt found.now expectation.now state }
-    ensures { WritesText (λ text. WritesSessionOf request.entry one.now asked lab.old text result) (W.contents writer.old) (W.contents writer.new) }
+    ensures { WritesText (λ text. WritesSessionOfExpectation request.entry one.now asked lab.old text result) (W.contents writer.old) (W.contents writer.new) }
 {
     match lead_to_state(alloc, lab, found, expectation, state) {
-        Ok(()) => tell_saved_as(Verdict::Saved, lab, writer),
+        Ok(()) => tell_saved_as(Verdict::SessionWritten, lab, writer),
         Err(LabFault::Full) => tell_refused(request.format, LabFault::Full, writer),
         Err(_) => tell_refused(request.format, LabFault::Memory, writer),
     }
@@ -163,12 +163,12 @@ fn lead_to_state(
     expectation: &NodeExpectation,
     state: u32,
 ) -> Result<(), LabFault>
-    requires ends { AreEndsOfChip (chip_of lab.old) found.now }
+    requires ends { AreEndsOfChip (chip_of_machine lab.old) found.now }
     requires unmet { IsExpectationUnmetAt found.now expectation.now state }
-    ensures led { OnOk result (LeadsToBreach lab.old (AtEnds expectation.now) lab.new) }
+    ensures led { OnOk result (LeadsToBreach lab.old (NodeAtEveryEnd expectation.now) lab.new) }
     ensures faults { IfErr result (λ why. (why ≡ Full) ⊎ (why ≡ Memory)) }
 {
-    match found.path_to(alloc, state) {
+    match found.path_from_initial_state(alloc, state) {
         Ok(events) => make_all(lab, events.as_slice()),
         Err(_) => Err(LabFault::Memory),
     }
@@ -185,9 +185,9 @@ fn tell_never<W: Write>(
     asked: u32,
     writer: &mut W,
 ) -> Verdict
-    requires ends { AreEndsOfChip (chip_of lab.old) found.old }
+    requires ends { AreEndsOfChip (chip_of_machine lab.old) found.old }
     requires said { one.now.expectation ≡ Never conditions.now }
-    ensures { WritesText (λ text. WritesSessionOf request.entry one.now asked lab.old text result) (W.contents writer.old) (W.contents writer.new) }
+    ensures { WritesText (λ text. WritesSessionOfExpectation request.entry one.now asked lab.old text result) (W.contents writer.old) (W.contents writer.new) }
 {
     let listed = conditions.as_slice();
     match find_reached_event(alloc, found, listed) {
@@ -211,11 +211,11 @@ fn tell_by_event<W: Write>(
     writer: &mut W,
 ) -> Verdict
     requires few { length conditions.now ≤ 8 }
-    requires ends { AreEndsOfChip (chip_of lab.old) found.old }
-    requires said { IsNeverOf conditions.now one.now.expectation }
+    requires ends { AreEndsOfChip (chip_of_machine lab.old) found.old }
+    requires said { IsNeverOfConditions conditions.now one.now.expectation }
     requires reached { IfSome reached (IsReachedEvent found.old conditions.now) }
     requires none { IfNone reached (HasNoReachedEvent found.old conditions.now) }
-    ensures { WritesText (λ text. WritesSessionOf request.entry one.now asked lab.old text result) (W.contents writer.old) (W.contents writer.new) }
+    ensures { WritesText (λ text. WritesSessionOfExpectation request.entry one.now asked lab.old text result) (W.contents writer.old) (W.contents writer.new) }
 {
     match reached {
         Some(reached) => tell_event(
@@ -238,13 +238,13 @@ fn tell_event<W: Write>(
     writer: &mut W,
 ) -> Verdict
     requires few { length conditions.now ≤ 8 }
-    requires ends { AreEndsOfChip (chip_of lab.old) found.old }
-    requires said { IsNeverOf conditions.now one.now.expectation }
+    requires ends { AreEndsOfChip (chip_of_machine lab.old) found.old }
+    requires said { IsNeverOfConditions conditions.now one.now.expectation }
     requires reached { IsReachedEvent found.old conditions.now reached }
-    ensures { WritesText (λ text. WritesSessionOf request.entry one.now asked lab.old text result) (W.contents writer.old) (W.contents writer.new) }
+    ensures { WritesText (λ text. WritesSessionOfExpectation request.entry one.now asked lab.old text result) (W.contents writer.old) (W.contents writer.new) }
 {
     match make_reached(alloc, lab, found, reached, conditions) {
-        Ok(_made) => tell_saved_as(Verdict::Saved, lab, writer),
+        Ok(_made) => tell_saved_as(Verdict::SessionWritten, lab, writer),
         Err(LabFault::Full) => tell_refused(request.format, LabFault::Full, writer),
         Err(_) => tell_refused(request.format, LabFault::Memory, writer),
     }
@@ -258,7 +258,7 @@ pub(crate) fn tell_unbroken<W: Write>(
     outcome: &ExpectationOutcome,
     writer: &mut W,
 ) -> Verdict
-    ensures { WritesText (λ text. IsWrittenWithVerdict (unbroken_expectation_text (is_fully_explored found.now.fault) asked one.now outcome.now) (unbroken_expectation_verdict outcome.now) text result)
+    ensures { WritesText (λ text. IsWrittenWithVerdictOrFails (unbroken_expectation_text (is_fully_explored found.now.fault) asked one.now outcome.now) (unbroken_expectation_verdict outcome.now) text result)
         (W.contents writer.old) (W.contents writer.new) }
 {
     let mut out = Writer::new(writer);
@@ -290,6 +290,6 @@ fn unbroken_expectation_verdict(outcome: &ExpectationOutcome) -> Verdict
     if is_outcome_unknown(*outcome) {
         Verdict::Unknown
     } else {
-        Verdict::Ended(Status::ImageRefused)
+        Verdict::FailedWithStatus(Status::ImageRefused)
     }
 }

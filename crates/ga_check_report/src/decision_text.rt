@@ -2,18 +2,18 @@
 
 ghost use Rattle.std.specs.Prelude.{◌≡◌, ◌≤◌, ◌+◌, ◌++◌};
 ghost use Rattle.arrayvec.specs.ArrayVec.{array_vec_len};
-ghost use Rattle.ga_event.specs.declared.made.Made.TheVariants.{Pass};
+ghost use Rattle.ga_event.specs.declared.made.MadeEvent.TheVariants.{Pass};
 ghost use Rattle.ga_display.specs.Texts.{own_event_kind_text};
 ghost use Rattle.ga_check_report.specs.DecisionTexts.{event_text_without_line_end, end_decision_text};
 
 use arrayvec::ArrayVec;
-use ga_event::Made;
+use ga_event::MadeEvent;
 use ga_grid::NodeId;
 use ga_node::OwnEventKind;
 use ga_state_ends::EndDecision;
 use ga_text::{
-    MAX_NUMBER_DIGITS, MAX_STEP_BYTES, TextBuffer, hex2, push_number, push_spaced_word, push_step,
-    push_text,
+    MAX_NUMBER_DIGITS, MAX_STEP_BYTES, TextBuffer, push_number, push_spaced_word, push_step,
+    push_text, two_hex_digits,
 };
 use ga_word::Word18;
 
@@ -43,17 +43,17 @@ pub(crate) fn decision_line(decision: Option<EndDecision>) -> TextBuffer
 }
 
 /// Adds an event.
-pub(crate) fn push_made(out: &mut TextBuffer, made: Made)
+pub(crate) fn push_made(out: &mut TextBuffer, made: MadeEvent)
     requires { array_vec_len out.old + MADE_ROOM ≤ 256 }
     ensures text { out.new.items ≡ out.old.items ++ event_text_without_line_end made }
     ensures len { array_vec_len out.new ≤ array_vec_len out.old + MADE_ROOM }
 {
     match made {
-        Made::Own { node, step, kind } => {
+        MadeEvent::Own { node, step, kind } => {
             push_step(out, node, step);
             push_kind(out, kind);
         }
-        Made::Pass {
+        MadeEvent::Pass {
             writer,
             writer_step,
             reader,
@@ -85,7 +85,7 @@ fn push_kind(out: &mut TextBuffer, kind: OwnEventKind)
     match kind {
         OwnEventKind::Fetch => push_text(out, b" fetch"),
         OwnEventKind::Run(code) => {
-            let [high, low] = hex2(code);
+            let [high, low] = two_hex_digits(code);
             push_text(out, &[b' ', b'r', b'u', b'n', b' ', high, low]);
         }
         OwnEventKind::Wait => push_text(out, b" wait"),

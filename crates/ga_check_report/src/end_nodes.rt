@@ -3,7 +3,7 @@
 ghost use Rattle.std.specs.Prelude.{◌≡◌, ◌≤◌, ◌+◌, ◌++◌, false, codes, slice_index_or};
 ghost use Rattle.ga_explorer_text.specs.Waiting.{name_text_of_node};
 ghost use Rattle.arrayvec.specs.ArrayVec.{array_vec_len};
-ghost use Rattle.ga_check_report.specs.EndTexts.{node_end_at, stopped_node_text, optional_name_text, can_continue, waits_to_read, waits_to_write, is_in_end_part, stopped_nodes_text, end_part_names_text, unclean_names_text};
+ghost use Rattle.ga_check_report.specs.EndTexts.{node_end_at, stopped_node_text, optional_node_name_text, can_node_continue, waits_to_read, waits_to_write, is_node_end_in_part, stopped_nodes_text, end_part_names_text, unclean_node_names_text};
 
 use arrayvec::ArrayVec;
 use ga_grid::NodeId;
@@ -79,7 +79,7 @@ pub(crate) fn nodes_of(part: EndPart, nodes: &[NodeEnd; 144]) -> Names
         let node = NodeId::new(number);
         push_name_if(
             &mut out,
-            is_in_end_part(part, node_end_at(nodes, node)),
+            is_node_end_in_part(part, node_end_at(nodes, node)),
             node,
         );
     }
@@ -87,18 +87,18 @@ pub(crate) fn nodes_of(part: EndPart, nodes: &[NodeEnd; 144]) -> Names
 }
 
 /// Whether a node that does this is one of the part.
-fn is_in_end_part(part: EndPart, end: NodeEnd) -> bool
-    ensures { result ≡ is_in_end_part part end }
+fn is_node_end_in_part(part: EndPart, end: NodeEnd) -> bool
+    ensures { result ≡ is_node_end_in_part part end }
 {
     match part {
-        EndPart::Continuing => can_continue(end),
+        EndPart::Continuing => can_node_continue(end),
         EndPart::Reading => waits_to_read(end),
         EndPart::Writing => waits_to_write(end),
     }
 }
 
-fn can_continue(end: NodeEnd) -> bool
-    ensures { result ≡ can_continue end }
+fn can_node_continue(end: NodeEnd) -> bool
+    ensures { result ≡ can_node_continue end }
 {
     match end {
         NodeEnd::KeepsRunning => true,
@@ -135,7 +135,7 @@ fn waits_to_write(end: NodeEnd) -> bool
 
 /// The nodes that make no further step and don't rest cleanly.
 pub(crate) fn unclean_among(unclean: &[bool; 144]) -> Names
-    ensures { result.items ≡ unclean_names_text unclean.now }
+    ensures { result.items ≡ unclean_node_names_text unclean.now }
 {
     let mut out = ArrayVec::new();
     'nodes: for number in 0..144u8 {
@@ -155,7 +155,7 @@ pub(crate) fn is_unclean(unclean: &[bool; 144], node: NodeId) -> bool
 /// Adds a blank and a node, if it is to be named.
 fn push_name_if(out: &mut Names, is_named: bool, node: NodeId)
     requires { array_vec_len out.old + NAME_ROOM ≤ NAMES_ROOM }
-    ensures text { out.new.items ≡ out.old.items ++ optional_name_text is_named node.number }
+    ensures text { out.new.items ≡ out.old.items ++ optional_node_name_text is_named node.number }
     ensures len { array_vec_len out.new ≤ array_vec_len out.old + NAME_ROOM }
 {
     if is_named {

@@ -5,13 +5,13 @@ ghost use Rattle.ga_text.specs.Output.{WritesExactly};
 ghost use Rattle.ga_json.specs.Compact.{json_line};
 ghost use Rattle.ga_json.specs.Fields.{named_field_value, json_object};
 ghost use Rattle.ga_check_report.specs.JsonValues.{optional_text_json};
-ghost use Rattle.ga_check_report.specs.EventJson.{event_details};
-ghost use Rattle.ga_check_report.specs.EndJson.{end_fields, end_object, decision_fields, decision_object, decision_objects, end_kind_objects, end_kinds_objects, endless_word, known_endless_word, ends_head, ends_json};
+ghost use Rattle.ga_check_report.specs.EventJson.{event_detail_fields};
+ghost use Rattle.ga_check_report.specs.EndJson.{end_kind_fields, end_kind_object, decision_json_fields, decision_json_object, decision_json_objects_text, end_kind_and_decision_objects, end_kinds_objects, endless_path_place_keyword, known_endless_path_place_keyword, ends_head_fields, ends_json};
 
 use crate::ends_text::is_fully_explored;
-use crate::json_fields::{event_fields, search_fields};
+use crate::json_fields::{event_fields, search_result_fields};
 use crate::node_rows::NodeRows;
-use ga_event::Made;
+use ga_event::MadeEvent;
 use ga_json::{Field, RowFields, row_fields, text_field, write_object, write_report};
 use ga_state_ends::{EndDecision, EndKind, FoundEnds};
 use ga_text::{WriteResult, Writer};
@@ -41,17 +41,17 @@ fn write_ends_head<W: Write>(
     found: &FoundEnds,
     writer: &mut Writer<'_, W>,
 ) -> WriteResult
-    ensures { WritesExactly result (json_line (json_object (ends_head file.now found.now))) W.contents writer.old writer.new }
+    ensures { WritesExactly result (json_line (json_object (ends_head_fields file.now found.now))) W.contents writer.old writer.new }
 {
-    let fields = ends_head(file, found);
+    let fields = ends_head_fields(file, found);
     write_object(fields.as_slice(), writer)
 }
 
 /// The fields of that object.
-fn ends_head<'a>(file: &'a [u8], found: &FoundEnds) -> RowFields<'a>
-    ensures { map named_field_value result.items ≡ ends_head file.now found.now }
+fn ends_head_fields<'a>(file: &'a [u8], found: &FoundEnds) -> RowFields<'a>
+    ensures { map named_field_value result.items ≡ ends_head_fields file.now found.now }
 {
-    let mut fields = search_fields(b"ends", file, found);
+    let mut fields = search_result_fields(b"ends", file, found);
     let endless = endless_field(found);
     let _fits = fields.try_extend_from_slice(&[
         Field::number(b"kinds", found.kinds().len() as u64),
@@ -62,12 +62,12 @@ fn ends_head<'a>(file: &'a [u8], found: &FoundEnds) -> RowFields<'a>
 
 /// Whether some order goes on for ever, if it is known.
 fn endless_field<'a>(found: &FoundEnds) -> Field<'a>
-    ensures { named_field_value result ≡ (codes "endless", optional_text_json (known_endless_word found.now.fault found.now.has_cycle_before found.now.has_cycle)) }
+    ensures { named_field_value result ≡ (codes "endless", optional_text_json (known_endless_path_place_keyword found.now.fault found.now.has_cycle_before found.now.has_cycle)) }
 {
     if is_fully_explored(found) {
         Field::text(
             b"endless",
-            endless_word(found.has_endless_path_before(), !found.always_ends()),
+            endless_path_place_keyword(found.has_endless_path_before_end(), !found.always_ends()),
         )
     } else {
         Field::absent(b"endless")
@@ -75,8 +75,8 @@ fn endless_field<'a>(found: &FoundEnds) -> Field<'a>
 }
 
 /// Whether some order goes on for ever, in a word.
-fn endless_word(before: bool, cycle: bool) -> &'static [u8]
-    ensures { result.now ≡ endless_word before cycle }
+fn endless_path_place_keyword(before: bool, cycle: bool) -> &'static [u8]
+    ensures { result.now ≡ endless_path_place_keyword before cycle }
 {
     if before {
         b"before"
@@ -122,7 +122,7 @@ fn write_kind_objects<W: Write>(
     decision: Option<EndDecision>,
     writer: &mut Writer<'_, W>,
 ) -> WriteResult
-    ensures { WritesExactly result (end_kind_objects file.now number kind.now decision) W.contents writer.old writer.new }
+    ensures { WritesExactly result (end_kind_and_decision_objects file.now number kind.now decision) W.contents writer.old writer.new }
 {
     write_end_object(file, number, kind, writer)?;
     write_decision_objects(file, number, decision, writer)
@@ -138,16 +138,16 @@ fn write_end_object<W: Write>(
     kind: &EndKind,
     writer: &mut Writer<'_, W>,
 ) -> WriteResult
-    ensures { WritesExactly result (json_line (end_object file.now number kind.now)) W.contents writer.old writer.new }
+    ensures { WritesExactly result (json_line (end_kind_object file.now number kind.now)) W.contents writer.old writer.new }
 {
-    let fields = end_fields(file, number, kind);
+    let fields = end_kind_fields(file, number, kind);
     let mut rows = NodeRows::new(kind);
     write_report(fields.as_slice(), &mut rows, writer)
 }
 
 /// The fields of that object before its rows.
-fn end_fields<'a>(file: &'a [u8], number: u64, kind: &EndKind) -> RowFields<'a>
-    ensures { map named_field_value result.items ≡ end_fields file.now number kind.now }
+fn end_kind_fields<'a>(file: &'a [u8], number: u64, kind: &EndKind) -> RowFields<'a>
+    ensures { map named_field_value result.items ≡ end_kind_fields file.now number kind.now }
 {
     let clean = !kind.is_unclean();
     row_fields(&[
@@ -169,7 +169,7 @@ pub(crate) fn write_decision_objects<W: Write>(
     decision: Option<EndDecision>,
     writer: &mut Writer<'_, W>,
 ) -> WriteResult
-    ensures { WritesExactly result (decision_objects file.now number decision) W.contents writer.old writer.new }
+    ensures { WritesExactly result (decision_json_objects_text file.now number decision) W.contents writer.old writer.new }
 {
     match decision {
         Some(both) => write_both_events(file, number, both.0, both.1, writer),
@@ -184,11 +184,11 @@ pub(crate) fn write_decision_objects<W: Write>(
 fn write_both_events<W: Write>(
     file: &[u8],
     number: u64,
-    taken: Made,
-    other: Made,
+    taken: MadeEvent,
+    other: MadeEvent,
     writer: &mut Writer<'_, W>,
 ) -> WriteResult
-    ensures { WritesExactly result (json_line (decision_object file.now number true taken) ++ json_line (decision_object file.now number false other))
+    ensures { WritesExactly result (json_line (decision_json_object file.now number true taken) ++ json_line (decision_json_object file.now number false other))
         W.contents writer.old writer.new }
 {
     write_decision_object(file, number, true, taken, writer)?;
@@ -203,18 +203,23 @@ fn write_decision_object<W: Write>(
     file: &[u8],
     number: u64,
     is_taken: bool,
-    made: Made,
+    made: MadeEvent,
     writer: &mut Writer<'_, W>,
 ) -> WriteResult
-    ensures { WritesExactly result (json_line (decision_object file.now number is_taken made)) W.contents writer.old writer.new }
+    ensures { WritesExactly result (json_line (decision_json_object file.now number is_taken made)) W.contents writer.old writer.new }
 {
-    let fields = decision_fields(file, number, is_taken, made);
+    let fields = decision_json_fields(file, number, is_taken, made);
     write_object(fields.as_slice(), writer)
 }
 
 /// The fields of that object.
-fn decision_fields<'a>(file: &'a [u8], number: u64, is_taken: bool, made: Made) -> RowFields<'a>
-    ensures { map named_field_value result.items ≡ decision_fields file.now number is_taken ++ event_details made }
+fn decision_json_fields<'a>(
+    file: &'a [u8],
+    number: u64,
+    is_taken: bool,
+    made: MadeEvent,
+) -> RowFields<'a>
+    ensures { map named_field_value result.items ≡ decision_json_fields file.now number is_taken ++ event_detail_fields made }
 {
     let mut fields = row_fields(&[
         Field::text(b"answer", b"decision"),

@@ -4,7 +4,7 @@ ghost use Rattle.std.specs.Prelude.{◌≡◌, ◌≤◌, ◌+◌, ◌++◌, len
 ghost use Rattle.arrayvec.specs.ArrayVec.{array_vec_len};
 ghost use Rattle.ga_text.specs.Output.{WritesExactly};
 ghost use Rattle.ga_check_report.specs.declared.end_nodes.EndPart.TheVariants.{Reading, Writing};
-ghost use Rattle.ga_check_report.specs.EndTexts.{stopped_nodes_text, end_part_names_text, unclean_names_text, enclosed_text, halted_nodes_text, quiet_end_text, endless_end_text, end_text, node_ends_text, end_count_text, end_kind_line, unclean_line, end_kind_text, decided_end_kind_text, end_kinds_text, counted_noun_text, at_least_text, is_fully_explored, ends_header, search_stop_text, termination_text, final_line_text, ends_text, missing_kind_text};
+ghost use Rattle.ga_check_report.specs.EndTexts.{stopped_nodes_text, end_part_names_text, unclean_node_names_text, names_between_texts, halted_nodes_text, quiet_end_text, endless_end_text, end_description_text, node_ends_text, ends_of_kind_count_text, end_kind_line, unclean_nodes_line, end_kind_text, end_kind_with_decision_text, end_kinds_text, counted_noun_text, at_least_text, is_fully_explored, ends_header, search_stop_text, termination_text, final_line_text, ends_text, no_such_end_kind_text};
 
 use crate::decision_text::decision_line;
 use crate::end_nodes::{EndPart, NAMES_ROOM, STOPS_ROOM, nodes_of, stops_among, unclean_among};
@@ -72,7 +72,7 @@ pub(crate) fn write_no_kind<W: Write>(
     found: &FoundEnds,
     writer: &mut Writer<'_, W>,
 ) -> WriteResult
-    ensures { WritesExactly result (missing_kind_text asked found.now) W.contents writer.old writer.new }
+    ensures { WritesExactly result (no_such_end_kind_text asked found.now) W.contents writer.old writer.new }
 {
     writer.write_blocks(no_kind_line(
         asked,
@@ -162,7 +162,7 @@ fn write_last<W: Write>(
 {
     match found.fault() {
         None => writer.write_text(termination_text(
-            found.has_endless_path_before(),
+            found.has_endless_path_before_end(),
             !found.always_ends(),
         )),
         Some(fault) => writer.write_blocks(stopped_line(request, fault).as_slice()),
@@ -231,7 +231,7 @@ fn write_decided_kind<W: Write>(
     decision: Option<EndDecision>,
     writer: &mut Writer<'_, W>,
 ) -> WriteResult
-    ensures { WritesExactly result (decided_end_kind_text number kind.now decision) W.contents writer.old writer.new }
+    ensures { WritesExactly result (end_kind_with_decision_text number kind.now decision) W.contents writer.old writer.new }
 {
     write_kind(number, kind, writer)?;
     writer.write_blocks(decision_line(decision).as_slice())
@@ -242,7 +242,7 @@ fn write_kind<W: Write>(number: u64, kind: &EndKind, writer: &mut Writer<'_, W>)
     ensures { WritesExactly result (end_kind_text number kind.now) W.contents writer.old writer.new }
 {
     writer.write_blocks(end_kind_line(number, kind).as_slice())?;
-    writer.write_blocks(unclean_line(&kind.unclean).as_slice())
+    writer.write_blocks(unclean_nodes_line(&kind.unclean).as_slice())
 }
 
 /// The line of a kind of end, which has this number.
@@ -261,7 +261,7 @@ fn end_kind_line(number: u64, kind: &EndKind) -> EndLine
 /// Adds how many ends are of the kind, if they are several.
 fn push_ways(out: &mut EndLine, ends: u32)
     requires { array_vec_len out.old ≤ END_ROOM }
-    ensures text { out.new.items ≡ out.old.items ++ end_count_text ends }
+    ensures text { out.new.items ≡ out.old.items ++ ends_of_kind_count_text ends }
     ensures len { array_vec_len out.new ≤ array_vec_len out.old + 30 }
 {
     if ends != 1 {
@@ -346,7 +346,7 @@ fn push_enclosed<const ROOM: usize>(
     names: &[u8],
 )
     requires { array_vec_len out.old + length before.now + length after.now + length names.now ≤ ROOM }
-    ensures text { out.new.items ≡ out.old.items ++ enclosed_text before.now after.now names.now }
+    ensures text { out.new.items ≡ out.old.items ++ names_between_texts before.now after.now names.now }
     ensures len { array_vec_len out.new ≤ array_vec_len out.old + length before.now + length after.now + length names.now }
 {
     if !names.is_empty() {
@@ -357,8 +357,8 @@ fn push_enclosed<const ROOM: usize>(
 }
 
 /// The line of the nodes that don't rest cleanly, if there are any.
-fn unclean_line(unclean: &[bool; 144]) -> UncleanLine
-    ensures { result.items ≡ unclean_line (unclean_names_text unclean.now) }
+fn unclean_nodes_line(unclean: &[bool; 144]) -> UncleanLine
+    ensures { result.items ≡ unclean_nodes_line (unclean_node_names_text unclean.now) }
 {
     let mut out = ArrayVec::new();
     push_enclosed(

@@ -6,11 +6,11 @@ ghost use Rattle.ga_text.specs.Output.{WritesExactly};
 ghost use Rattle.ga_json.specs.Compact.{json_line};
 ghost use Rattle.ga_json.specs.Fields.{named_field_value};
 ghost use Rattle.ga_check_report.specs.JsonValues.{optional_text_json};
-ghost use Rattle.ga_check_report.specs.inner.{breach_sides, outcome_sides};
-ghost use Rattle.ga_check_report.specs.ExpectationJson.{outcome_word, breach_word, outcome_cause, breach_session_number, outcome_session_number, observation_word, observation_sides, side_list_text, observation_details, breach_details, outcome_details, expectation_fields, expectation_object};
+ghost use Rattle.ga_check_report.specs.inner.{awaited_sides_of_breach_text, awaited_sides_of_outcome_text};
+ghost use Rattle.ga_check_report.specs.ExpectationJson.{outcome_keyword, breach_keyword, outcome_breach_keyword, breach_session_number, outcome_session_number, observation_keyword, awaited_sides_of_observation_text, side_list_text, observation_detail_fields, breach_detail_fields, outcome_detail_fields, expectation_fields, expectation_object};
 
 use crate::json_fields::{MAX_DETAILS, event_fields};
-use crate::link_fault::{link_fault_fields, link_fault_word};
+use crate::link_fault::{link_fault_fields, link_fault_keyword};
 use crate::outcome::{Breach, ExpectationOutcome, NodeObservation};
 use crate::outcome_text::{push_sides, sides_of};
 use arrayvec::ArrayVec;
@@ -20,8 +20,8 @@ use ga_text::{TextBuffer, WriteResult, Writer, push_text};
 use std::io::Write;
 
 /// The words that name what is known of an expectation.
-pub(crate) fn outcome_word(outcome: ExpectationOutcome) -> &'static [u8]
-    ensures { result.now ≡ outcome_word outcome }
+pub(crate) fn outcome_keyword(outcome: ExpectationOutcome) -> &'static [u8]
+    ensures { result.now ≡ outcome_keyword outcome }
 {
     match outcome {
         ExpectationOutcome::Holds => b"holds",
@@ -31,21 +31,21 @@ pub(crate) fn outcome_word(outcome: ExpectationOutcome) -> &'static [u8]
 }
 
 /// What breaks an expectation, in a word.
-fn breach_word(breach: Breach) -> &'static [u8]
-    ensures { result.now ≡ breach_word breach }
+fn breach_keyword(breach: Breach) -> &'static [u8]
+    ensures { result.now ≡ breach_keyword breach }
 {
     match breach {
-        Breach::Unmet { observation, .. } => observation_word(observation),
+        Breach::Unmet { observation, .. } => observation_keyword(observation),
         Breach::Reached(_) => b"event",
-        Breach::OverLink { fault, .. } => link_fault_word(fault),
+        Breach::OverLink { fault, .. } => link_fault_keyword(fault),
         Breach::Endless => b"endless",
         Breach::SeveralEnds(_) => b"ends",
     }
 }
 
 /// What a node holds or does, in a word.
-fn observation_word(observation: NodeObservation) -> &'static [u8]
-    ensures { result.now ≡ observation_word observation }
+fn observation_keyword(observation: NodeObservation) -> &'static [u8]
+    ensures { result.now ≡ observation_keyword observation }
 {
     match observation {
         NodeObservation::Is(_) => b"value",
@@ -59,11 +59,11 @@ fn observation_word(observation: NodeObservation) -> &'static [u8]
 
 /// What breaks an expectation, in a word, if it is broken.
 fn cause_field<'a>(outcome: ExpectationOutcome) -> Field<'a>
-    ensures { named_field_value result ≡ (codes "because", optional_text_json (outcome_cause outcome)) }
+    ensures { named_field_value result ≡ (codes "because", optional_text_json (outcome_breach_keyword outcome)) }
 {
     match outcome {
         ExpectationOutcome::Holds => Field::absent(b"because"),
-        ExpectationOutcome::Broken(breach) => Field::text(b"because", breach_word(breach)),
+        ExpectationOutcome::Broken(breach) => Field::text(b"because", breach_keyword(breach)),
         ExpectationOutcome::Unknown => Field::absent(b"because"),
     }
 }
@@ -92,21 +92,21 @@ fn breach_session_number(number: u64, breach: Breach) -> Option<u64>
 }
 
 /// The sides that a node awaits, with a blank between two.
-fn outcome_sides(outcome: ExpectationOutcome) -> TextBuffer
-    ensures { result.items ≡ outcome_sides outcome }
+fn awaited_sides_of_outcome_text(outcome: ExpectationOutcome) -> TextBuffer
+    ensures { result.items ≡ awaited_sides_of_outcome_text outcome }
 {
     match outcome {
         ExpectationOutcome::Holds => ArrayVec::new(),
-        ExpectationOutcome::Broken(breach) => breach_sides(breach),
+        ExpectationOutcome::Broken(breach) => awaited_sides_of_breach_text(breach),
         ExpectationOutcome::Unknown => ArrayVec::new(),
     }
 }
 
-fn breach_sides(breach: Breach) -> TextBuffer
-    ensures { result.items ≡ breach_sides breach }
+fn awaited_sides_of_breach_text(breach: Breach) -> TextBuffer
+    ensures { result.items ≡ awaited_sides_of_breach_text breach }
 {
     match breach {
-        Breach::Unmet { observation, .. } => observation_sides(observation),
+        Breach::Unmet { observation, .. } => awaited_sides_of_observation_text(observation),
         Breach::Reached(_) => ArrayVec::new(),
         Breach::OverLink { .. } => ArrayVec::new(),
         Breach::Endless => ArrayVec::new(),
@@ -114,8 +114,8 @@ fn breach_sides(breach: Breach) -> TextBuffer
     }
 }
 
-fn observation_sides(observation: NodeObservation) -> TextBuffer
-    ensures { result.items ≡ observation_sides observation }
+fn awaited_sides_of_observation_text(observation: NodeObservation) -> TextBuffer
+    ensures { result.items ≡ awaited_sides_of_observation_text observation }
 {
     match observation {
         NodeObservation::Is(_) => ArrayVec::new(),
@@ -142,8 +142,8 @@ fn side_list_text(sides: PortSet) -> TextBuffer
 
 /// The fields of what breaks an expectation, if it is broken; the node awaits these sides.
 fn outcome_fields<'a>(outcome: ExpectationOutcome, sides: &'a [u8]) -> RowFields<'a>
-    requires { sides.now ≡ outcome_sides outcome }
-    ensures details { map named_field_value result.items ≡ outcome_details outcome }
+    requires { sides.now ≡ awaited_sides_of_outcome_text outcome }
+    ensures details { map named_field_value result.items ≡ outcome_detail_fields outcome }
     ensures few { array_vec_len result ≤ MAX_DETAILS }
 {
     match outcome {
@@ -154,8 +154,8 @@ fn outcome_fields<'a>(outcome: ExpectationOutcome, sides: &'a [u8]) -> RowFields
 }
 
 fn breach_fields<'a>(breach: Breach, sides: &'a [u8]) -> RowFields<'a>
-    requires { sides.now ≡ breach_sides breach }
-    ensures details { map named_field_value result.items ≡ breach_details breach }
+    requires { sides.now ≡ awaited_sides_of_breach_text breach }
+    ensures details { map named_field_value result.items ≡ breach_detail_fields breach }
     ensures few { array_vec_len result ≤ MAX_DETAILS }
 {
     match breach {
@@ -168,8 +168,8 @@ fn breach_fields<'a>(breach: Breach, sides: &'a [u8]) -> RowFields<'a>
 }
 
 fn observation_fields<'a>(observation: NodeObservation, sides: &'a [u8]) -> RowFields<'a>
-    requires { sides.now ≡ observation_sides observation }
-    ensures details { map named_field_value result.items ≡ observation_details observation }
+    requires { sides.now ≡ awaited_sides_of_observation_text observation }
+    ensures details { map named_field_value result.items ≡ observation_detail_fields observation }
     ensures few { array_vec_len result ≤ MAX_DETAILS }
 {
     match observation {
@@ -196,7 +196,7 @@ pub(crate) fn write_expectation_object<'a, W: Write>(
 ) -> WriteResult
     ensures { WritesExactly result (json_line (expectation_object file.now number line words.now outcome)) W.contents writer.old writer.new }
 {
-    let sides = outcome_sides(outcome);
+    let sides = awaited_sides_of_outcome_text(outcome);
     write_with_sides(
         file,
         number,
@@ -221,7 +221,7 @@ fn write_with_sides<'a, W: Write>(
     sides: &'a [u8],
     writer: &mut Writer<'_, W>,
 ) -> WriteResult
-    requires { sides.now ≡ outcome_sides outcome.now }
+    requires { sides.now ≡ awaited_sides_of_outcome_text outcome.now }
     ensures { WritesExactly result (json_line (expectation_object file.now number line words.now outcome.now)) W.contents writer.old writer.new }
 {
     let fields = object_fields(file, number as u64, line, words, outcome, sides);
@@ -237,8 +237,8 @@ fn object_fields<'a>(
     outcome: &ExpectationOutcome,
     sides: &'a [u8],
 ) -> RowFields<'a>
-    requires { sides.now ≡ outcome_sides outcome.now }
-    ensures { map named_field_value result.items ≡ expectation_fields file.now number line words.now outcome.now ++ outcome_details outcome.now }
+    requires { sides.now ≡ awaited_sides_of_outcome_text outcome.now }
+    ensures { map named_field_value result.items ≡ expectation_fields file.now number line words.now outcome.now ++ outcome_detail_fields outcome.now }
 {
     let mut fields = expectation_fields(file, number, line, words, outcome);
     let details = outcome_fields(*outcome, sides);
@@ -257,7 +257,7 @@ fn expectation_fields<'a>(
     ensures front { map named_field_value result.items ≡ expectation_fields file.now number line words.now outcome.now }
     ensures few { array_vec_len result ≤ 8 }
 {
-    let word = outcome_word(*outcome);
+    let word = outcome_keyword(*outcome);
     let cause = cause_field(*outcome);
     let session = outcome_session_number(number, *outcome);
     row_fields(&[

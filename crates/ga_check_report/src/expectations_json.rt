@@ -4,12 +4,12 @@ ghost use Rattle.std.specs.Prelude.{◌≡◌, map};
 ghost use Rattle.ga_text.specs.Output.{WritesExactly};
 ghost use Rattle.ga_json.specs.Compact.{json_line};
 ghost use Rattle.ga_json.specs.Fields.{named_field_value, json_object};
-ghost use Rattle.ga_check_report.specs.ExpectationJson.{expectation_object, expectation_objects, expectations_head, expectations_json};
+ghost use Rattle.ga_check_report.specs.ExpectationJson.{expectation_object, expectation_objects, expectations_head_fields, expectations_json};
 
 use crate::breach_decisions::{decision_at, write_decided_objects};
 use crate::expectation_json::write_expectation_object;
 use crate::expected::outcome_at;
-use crate::json_fields::search_fields;
+use crate::json_fields::search_result_fields;
 use crate::outcome::ExpectationOutcome;
 use ga_json::{Field, RowFields, write_object};
 use ga_state_ends::{EndDecision, FoundEnds};
@@ -45,17 +45,17 @@ fn write_expectations_head<W: Write>(
     count: usize,
     writer: &mut Writer<'_, W>,
 ) -> WriteResult
-    ensures { WritesExactly result (json_line (json_object (expectations_head file.now found.now count))) W.contents writer.old writer.new }
+    ensures { WritesExactly result (json_line (json_object (expectations_head_fields file.now found.now count))) W.contents writer.old writer.new }
 {
-    let fields = expectations_head(file, found, count as u64);
+    let fields = expectations_head_fields(file, found, count as u64);
     write_object(fields.as_slice(), writer)
 }
 
 /// The fields of that object.
-fn expectations_head<'a>(file: &'a [u8], found: &FoundEnds, count: u64) -> RowFields<'a>
-    ensures { map named_field_value result.items ≡ expectations_head file.now found.now count }
+fn expectations_head_fields<'a>(file: &'a [u8], found: &FoundEnds, count: u64) -> RowFields<'a>
+    ensures { map named_field_value result.items ≡ expectations_head_fields file.now found.now count }
 {
-    let mut fields = search_fields(b"expectations", file, found);
+    let mut fields = search_result_fields(b"expectations", file, found);
     let _fits = fields.try_extend_from_slice(&[Field::number(b"expectations", count)]);
     fields
 }

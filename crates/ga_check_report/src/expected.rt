@@ -3,18 +3,18 @@
 ghost use Rattle.std.specs.Prelude.{◌≡◌, ◌≤◌, ◌-◌, List, Some, slice_get, slice_index_or, length};
 ghost use Rattle.ga_node.specs.Record.{NodeRecord};
 ghost use Rattle.ga_text.specs.Output.{WritesExactly, WritesText, ReadsAndWrites};
-ghost use Rattle.ga_lab.specs.Machine.{State, chip_of};
+ghost use Rattle.ga_lab.specs.Machine.{MachineState, chip_of_machine};
 ghost use Rattle.ga_console.specs.declared.run.Status.TheVariants.{ImageRefused};
 ghost use Rattle.ga_state_ends.specs.Ends.{AreEndsOfChip};
 ghost use Rattle.ga_check_report.specs.declared.outcome.ExpectationOutcome.TheVariants.{Unknown};
-ghost use Rattle.ga_check_report.specs.declared.report.Verdict.TheVariants.{Ended};
-ghost use Rattle.ga_check_report.specs.Checking.{IsWrittenWithVerdict};
-ghost use Rattle.ga_check_report.specs.Answers.{expectations_answer, expectations_answer_by};
-ghost use Rattle.ga_check_report.specs.ExpectationTexts.{expectations_lines_text, expectations_text, missing_session_text, optional_search_stop_text};
+ghost use Rattle.ga_check_report.specs.declared.report.Verdict.TheVariants.{FailedWithStatus};
+ghost use Rattle.ga_check_report.specs.Checking.{IsWrittenWithVerdictOrFails};
+ghost use Rattle.ga_check_report.specs.Answers.{expectations_answer, expectations_answer_in_format};
+ghost use Rattle.ga_check_report.specs.ExpectationTexts.{expectations_lines_text, expectations_text, no_such_expectation_text, optional_search_stop_text};
 ghost use Rattle.ga_check_report.specs.Outcomes.{AreExpectationOutcomes, expectations_verdict};
-ghost use Rattle.ga_check_report.specs.Expected.{WritesReportForDebugInfo, WritesExpectationsReport, WritesProgramReport, IsProgramOutcome};
-ghost use Rattle.ga_check_report.specs.Settled.{check_start};
-ghost use Rattle.ga_check_report.specs.inner.{WritesOutcomes};
+ghost use Rattle.ga_check_report.specs.Expected.{WritesReportForDebugInfo, WritesExpectationsReport, WritesProgramCheckReport, IsProgramCheckOutcome};
+ghost use Rattle.ga_check_report.specs.Settled.{check_start_state};
+ghost use Rattle.ga_check_report.specs.inner.{WritesExpectationOutcomes};
 
 use crate::breach_decisions::{decide_breaches, decision_at, write_decided_line};
 use crate::breach_session::tell_one;
@@ -23,11 +23,11 @@ use crate::expectations_json::write_expectations_json;
 use crate::judging::judge_all;
 use crate::opening::open_program;
 use crate::outcome::{ExpectationOutcome, OutcomeParts};
-use crate::outcome_text::{expectations_header, missing_session_text};
+use crate::outcome_text::{expectations_header, no_such_expectation_text};
 use crate::report::{Verdict, sent, tell_ends, tell_refused};
 use crate::request::CheckRequest;
 use crate::same_end::{expectations_verdict, write_expectations_answer};
-use crate::settling::settle_waiting_nodes;
+use crate::settling::settle_idle_nodes;
 use ga_console::Status;
 use ga_explorer::Explorer;
 use ga_json::ReportFormat;
@@ -35,14 +35,14 @@ use ga_lab::{Lab, LabFault};
 use ga_state_ends::{EndDecision, FoundEnds, find_ends};
 use ga_state_expectations::{ExpectationsError, LineExpectation, parse_expectations};
 use ga_state_search::SearchControl;
-use ga_text::{Input, WriteResult, Writer};
+use ga_text::{InputBuffer, WriteResult, Writer};
 use std::alloc::Global;
 use std::io::{Read, Write};
 
 /// Reads an image or source as [`crate::check_ends`] does. Writes of each expectation of the source whether it holds in every order; or, if one is
 /// named by its number, from 1 on, the lines `step NNN` that lead to what breaks it. Without expectations it does what [`crate::check_ends`] does.
 /// The verdict is `Clean` where each holds, `Unclean` where one is broken. With `request.same` one end is expected, too.
-pub fn check_program<R: Read, W: Write, E: Write>(
+pub fn check_expectations_or_ends<R: Read, W: Write, E: Write>(
     alloc: Global,
     reader: &mut R,
     writer: &mut W,
@@ -54,10 +54,10 @@ pub fn check_program<R: Read, W: Write, E: Write>(
     watch: &SearchControl,
 ) -> Verdict
     // If the streams report their bytes: what was read, and what was written for it by the verdict.
-    ensures { ReadsAndWrites (λ read rest text. IsProgramOutcome request.entry limit settles asked read rest text result)
+    ensures { ReadsAndWrites (λ read rest text. IsProgramCheckOutcome request.entry limit settles asked read rest text result)
         (R.remaining reader.old) (R.remaining reader.new) (W.contents writer.old) (W.contents writer.new) }
 {
-    let mut input = Input::new();
+    let mut input = InputBuffer::new();
     match open_program(
         alloc,
         &mut input,
@@ -68,7 +68,7 @@ pub fn check_program<R: Read, W: Write, E: Write>(
         limit,
     ) {
         Ok(begun) => answer_expectations(alloc, begun, request, settles, asked, watch, writer),
-        Err(status) => Verdict::Ended(status),
+        Err(status) => Verdict::FailedWithStatus(status),
     }
 }
 
@@ -82,7 +82,7 @@ fn answer_expectations<W: Write>(
     watch: &SearchControl,
     writer: &mut W,
 ) -> Verdict
-    ensures { WritesText (λ text. WritesReportForDebugInfo begun.notes request.entry asked (check_start settles begun.lab) text result) (W.contents writer.old) (W.contents writer.new) }
+    ensures { WritesText (λ text. WritesReportForDebugInfo begun.notes request.entry asked (check_start_state settles begun.lab) text result) (W.contents writer.old) (W.contents writer.new) }
 {
     match parse_expectations(alloc, begun.notes()) {
         Ok(expectations) => settle_and_judge(
@@ -96,7 +96,7 @@ fn answer_expectations<W: Write>(
             writer,
         ),
         Err(ExpectationsError::Memory) => tell_refused(request.format, LabFault::Memory, writer),
-        Err(ExpectationsError::Faulty(_)) => Verdict::Ended(Status::ImageRefused),
+        Err(ExpectationsError::FaultyLines(_)) => Verdict::FailedWithStatus(Status::ImageRefused),
     }
 }
 
@@ -111,10 +111,10 @@ fn settle_and_judge<W: Write>(
     watch: &SearchControl,
     writer: &mut W,
 ) -> Verdict
-    ensures { WritesText (λ text. WritesProgramReport request.entry expectations.now asked (check_start settles lab.old) text result)
+    ensures { WritesText (λ text. WritesProgramCheckReport request.entry expectations.now asked (check_start_state settles lab.old) text result)
         (W.contents writer.old) (W.contents writer.new) }
 {
-    match settle_waiting_nodes(lab, settles) {
+    match settle_idle_nodes(lab, settles) {
         Ok(()) => tell_program(alloc, lab, request, expectations, asked, watch, writer),
         Err(_) => tell_refused(request.format, LabFault::Memory, writer),
     }
@@ -130,7 +130,7 @@ fn tell_program<W: Write>(
     watch: &SearchControl,
     writer: &mut W,
 ) -> Verdict
-    ensures { WritesText (λ text. WritesProgramReport request.entry expectations.now asked lab.old text result) (W.contents writer.old) (W.contents writer.new) }
+    ensures { WritesText (λ text. WritesProgramCheckReport request.entry expectations.now asked lab.old text result) (W.contents writer.old) (W.contents writer.new) }
 {
     let count = expectations.len();
     if count == 0 {
@@ -170,7 +170,7 @@ fn tell_expectations<W: Write>(
     asked: u32,
     writer: &mut W,
 ) -> Verdict
-    requires { AreEndsOfChip (chip_of lab.old) found.old }
+    requires { AreEndsOfChip (chip_of_machine lab.old) found.old }
     ensures { WritesText (λ text. WritesExpectationsReport request.entry expectations.now asked lab.old text result) (W.contents writer.old) (W.contents writer.new) }
 {
     if asked == 0 {
@@ -210,7 +210,7 @@ fn tell_each<W: Write>(
     expectations: &[LineExpectation],
     writer: &mut W,
 ) -> Verdict
-    requires { AreEndsOfChip (chip_of lab.old) found.old }
+    requires { AreEndsOfChip (chip_of_machine lab.old) found.old }
     ensures { WritesText (λ text. WritesExpectationsReport request.entry expectations.now 0 lab.old text result) (W.contents writer.old) (W.contents writer.new) }
 {
     let _parts: Option<OutcomeParts> = None;
@@ -238,8 +238,8 @@ fn decide_and_tell<W: Write>(
     writer: &mut W,
 ) -> Verdict
     requires ends { (load : List NodeRecord) × AreEndsOfChip load found.old }
-    requires known { (s : State) × AreExpectationOutcomes s found.old expectations.now outcomes.now }
-    ensures { WritesText (λ text. WritesOutcomes request.entry found.old expectations.now outcomes.now text result) (W.contents writer.old) (W.contents writer.new) }
+    requires known { (s : MachineState) × AreExpectationOutcomes s found.old expectations.now outcomes.now }
+    ensures { WritesText (λ text. WritesExpectationOutcomes request.entry found.old expectations.now outcomes.now text result) (W.contents writer.old) (W.contents writer.new) }
 {
     match decide_breaches(alloc, found, expectations, outcomes) {
         Ok(decisions) => tell_outcomes(
@@ -263,7 +263,7 @@ fn tell_outcomes<W: Write>(
     decisions: &[Option<EndDecision>],
     writer: &mut W,
 ) -> Verdict
-    ensures { WritesText (λ text. IsWrittenWithVerdict (expectations_answer request.entry found.now expectations.now outcomes.now decisions.now) (expectations_verdict request.entry found.now outcomes.now) text result)
+    ensures { WritesText (λ text. IsWrittenWithVerdictOrFails (expectations_answer request.entry found.now expectations.now outcomes.now decisions.now) (expectations_verdict request.entry found.now outcomes.now) text result)
         (W.contents writer.old) (W.contents writer.new) }
 {
     let mut out = Writer::new(writer);
@@ -294,7 +294,7 @@ pub(crate) fn write_expectations<W: Write>(
     decisions: &[Option<EndDecision>],
     writer: &mut Writer<'_, W>,
 ) -> WriteResult
-    ensures { WritesExactly result (expectations_answer_by request.entry.format request.entry found.now expectations.now outcomes.now decisions.now) W.contents writer.old writer.new }
+    ensures { WritesExactly result (expectations_answer_in_format request.entry.format request.entry found.now expectations.now outcomes.now decisions.now) W.contents writer.old writer.new }
 {
     match request.format {
         ReportFormat::Text => {
@@ -384,10 +384,14 @@ fn write_stop<W: Write>(
 
 /// Writes that there are fewer expectations.
 fn tell_missing<W: Write>(expectations: usize, asked: u32, writer: &mut W) -> Verdict
-    ensures { WritesText (λ text. IsWrittenWithVerdict (missing_session_text asked expectations) (Ended ImageRefused) text result)
+    ensures { WritesText (λ text. IsWrittenWithVerdictOrFails (no_such_expectation_text asked expectations) (FailedWithStatus ImageRefused) text result)
         (W.contents writer.old) (W.contents writer.new) }
 {
     let mut out = Writer::new(writer);
-    let said = out.write_blocks(missing_session_text(asked, expectations).as_slice());
-    sent(said, Verdict::Ended(Status::ImageRefused), &mut out)
+    let said = out.write_blocks(no_such_expectation_text(asked, expectations).as_slice());
+    sent(
+        said,
+        Verdict::FailedWithStatus(Status::ImageRefused),
+        &mut out,
+    )
 }

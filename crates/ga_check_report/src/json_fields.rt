@@ -3,13 +3,13 @@
 ghost use Rattle.std.specs.Prelude.{◌≡◌, ◌≤◌, [], codes, map};
 ghost use Rattle.arrayvec.specs.ArrayVec.{array_vec_len};
 ghost use Rattle.ga_node.specs.declared.kind.OwnEventKind.TheVariants.{Run, Stop};
-ghost use Rattle.ga_event.specs.declared.made.Made.TheVariants.{Own, Pass};
+ghost use Rattle.ga_event.specs.declared.made.MadeEvent.TheVariants.{Own, Pass};
 ghost use Rattle.ga_json.specs.Fields.{named_field_value};
-ghost use Rattle.ga_check_report.specs.JsonValues.{search_stop_word, search_stop_json, search_fields};
-ghost use Rattle.ga_check_report.specs.EventJson.{step_details, event_details};
+ghost use Rattle.ga_check_report.specs.JsonValues.{search_stop_keyword, search_stop_json, search_result_fields};
+ghost use Rattle.ga_check_report.specs.EventJson.{event_kind_and_step_fields, event_detail_fields};
 
 use crate::ends_text::is_fully_explored;
-use ga_event::Made;
+use ga_event::MadeEvent;
 use ga_grid::NodeId;
 use ga_json::{Field, RowFields, row_fields, text_field};
 use ga_node::OwnEventKind;
@@ -21,13 +21,13 @@ use ga_word::Word18;
 pub(crate) const MAX_DETAILS: usize = 6;
 
 /// The fields of an event: what it was, and its steps.
-pub(crate) fn event_fields<'a>(made: Made) -> RowFields<'a>
-    ensures details { map named_field_value result.items ≡ event_details made }
+pub(crate) fn event_fields<'a>(made: MadeEvent) -> RowFields<'a>
+    ensures details { map named_field_value result.items ≡ event_detail_fields made }
     ensures few { array_vec_len result ≤ MAX_DETAILS }
 {
     match made {
-        Made::Own { node, step, kind } => own_fields(node, step, kind),
-        Made::Pass {
+        MadeEvent::Own { node, step, kind } => own_fields(node, step, kind),
+        MadeEvent::Pass {
             writer,
             writer_step,
             reader,
@@ -39,7 +39,7 @@ pub(crate) fn event_fields<'a>(made: Made) -> RowFields<'a>
 
 /// The fields of an event of a node's own.
 fn own_fields<'a>(node: NodeId, step: u32, kind: OwnEventKind) -> RowFields<'a>
-    ensures details { map named_field_value result.items ≡ event_details (Own node step kind) }
+    ensures details { map named_field_value result.items ≡ event_detail_fields (Own node step kind) }
     ensures few { array_vec_len result ≤ MAX_DETAILS }
 {
     match kind {
@@ -52,7 +52,7 @@ fn own_fields<'a>(node: NodeId, step: u32, kind: OwnEventKind) -> RowFields<'a>
 
 /// The fields of an event without a number.
 fn step_fields<'a>(what: &'a [u8], node: NodeId, step: u32) -> RowFields<'a>
-    ensures details { map named_field_value result.items ≡ step_details what.now node step [] }
+    ensures details { map named_field_value result.items ≡ event_kind_and_step_fields what.now node step [] }
     ensures few { array_vec_len result ≤ MAX_DETAILS }
 {
     row_fields(&[
@@ -64,7 +64,7 @@ fn step_fields<'a>(what: &'a [u8], node: NodeId, step: u32) -> RowFields<'a>
 
 /// The fields of an opcode that was carried out.
 fn run_fields<'a>(node: NodeId, step: u32, code: u8) -> RowFields<'a>
-    ensures details { map named_field_value result.items ≡ event_details (Own node step (Run code)) }
+    ensures details { map named_field_value result.items ≡ event_detail_fields (Own node step (Run code)) }
     ensures few { array_vec_len result ≤ MAX_DETAILS }
 {
     row_fields(&[
@@ -77,7 +77,7 @@ fn run_fields<'a>(node: NodeId, step: u32, code: u8) -> RowFields<'a>
 
 /// The fields of a stop.
 fn stop_fields<'a>(node: NodeId, step: u32, stop: u8) -> RowFields<'a>
-    ensures details { map named_field_value result.items ≡ event_details (Own node step (Stop stop)) }
+    ensures details { map named_field_value result.items ≡ event_detail_fields (Own node step (Stop stop)) }
     ensures few { array_vec_len result ≤ MAX_DETAILS }
 {
     row_fields(&[
@@ -90,7 +90,7 @@ fn stop_fields<'a>(node: NodeId, step: u32, stop: u8) -> RowFields<'a>
 
 /// The fields of a transfer: the writer's step, then the reader's and the word.
 fn pass_fields<'a>(writer: (NodeId, u32), reader: (NodeId, u32), word: Word18) -> RowFields<'a>
-    ensures details { map named_field_value result.items ≡ event_details (Pass writer.0 writer.1 reader.0 reader.1 word) }
+    ensures details { map named_field_value result.items ≡ event_detail_fields (Pass writer.0 writer.1 reader.0 reader.1 word) }
     ensures few { array_vec_len result ≤ MAX_DETAILS }
 {
     row_fields(&[
@@ -104,12 +104,12 @@ fn pass_fields<'a>(writer: (NodeId, u32), reader: (NodeId, u32), word: Word18) -
 }
 
 /// What an answer with this name says of a search: the number of states, whether each was explored, and which bound was met.
-pub(crate) fn search_fields<'a>(
+pub(crate) fn search_result_fields<'a>(
     answer: &'a [u8],
     file: &'a [u8],
     found: &FoundEnds,
 ) -> RowFields<'a>
-    ensures fields { map named_field_value result.items ≡ search_fields answer.now file.now found.now }
+    ensures fields { map named_field_value result.items ≡ search_result_fields answer.now file.now found.now }
     ensures few { array_vec_len result ≤ 5 }
 {
     let whole = is_fully_explored(found);
@@ -129,13 +129,13 @@ fn stop_field<'a>(fault: Option<SearchFault>) -> Field<'a>
 {
     match fault {
         None => Field::absent(b"stopped"),
-        Some(why) => Field::text(b"stopped", search_stop_word(why)),
+        Some(why) => Field::text(b"stopped", search_stop_keyword(why)),
     }
 }
 
 /// The bound that was met, in a word.
-fn search_stop_word(why: SearchFault) -> &'static [u8]
-    ensures { result.now ≡ search_stop_word why }
+fn search_stop_keyword(why: SearchFault) -> &'static [u8]
+    ensures { result.now ≡ search_stop_keyword why }
 {
     match why {
         SearchFault::Full => b"states",

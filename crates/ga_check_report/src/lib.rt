@@ -31,10 +31,10 @@ mod request;
 mod same_end;
 mod settling;
 
-pub use expected::check_program;
+pub use expected::check_expectations_or_ends;
 pub use ga_json::ReportFormat;
 pub use ga_state_conditions::ConditionFault;
-pub use never::check_never;
-pub use opening::open_for_json_output;
+pub use never::check_never_conditions;
+pub use opening::open_lab_with_json_refusals;
 pub use report::{Verdict, check_ends};
 pub use request::CheckRequest;

@@ -3,15 +3,15 @@
 ghost use Rattle.std.specs.Prelude.{◌≡◌, ◌⊎◌, List, IfOk, OnOk, IfErr, IfSome, IfNone};
 ghost use Rattle.ga_text.specs.Output.{WritesText};
 ghost use Rattle.ga_node.specs.Record.{NodeRecord};
-ghost use Rattle.ga_lab.specs.Machine.{chip_of};
+ghost use Rattle.ga_lab.specs.Machine.{chip_of_machine};
 ghost use Rattle.ga_lab.specs.declared.fault.LabFault.TheVariants.{Memory, Full};
 ghost use Rattle.ga_state_ends.specs.Ends.{AreEndsOfChip};
 ghost use Rattle.ga_state_links.specs.LinkExpectations.{IsLinkBreach};
 ghost use Rattle.ga_state_links.specs.Places.{HasNoLinkBreach};
-ghost use Rattle.ga_state_expectations.specs.declared.source.Expectation.TheVariants.{Passes};
-ghost use Rattle.ga_check_report.specs.Outcomes.{IsOverLinkBreach, IsOutcomeByFindings};
+ghost use Rattle.ga_state_expectations.specs.declared.source.Expectation.TheVariants.{LinkPassesWords};
+ghost use Rattle.ga_check_report.specs.Outcomes.{IsLinkWordsBreach, IsOutcomeOfSearchFindings};
 ghost use Rattle.ga_check_report.specs.Expected.{LeadsToBreach};
-ghost use Rattle.ga_check_report.specs.inner.{WritesSessionOf};
+ghost use Rattle.ga_check_report.specs.inner.{WritesSessionOfExpectation};
 
 use crate::breach_session::tell_unbroken;
 use crate::judging::without_breach;
@@ -37,7 +37,7 @@ pub(crate) fn judge_link(
 ) -> Result<ExpectationOutcome, LabFault>
     requires { (load : List NodeRecord) × AreEndsOfChip load found.old }
     ensures known { (load : List NodeRecord) → AreEndsOfChip load found.old →
-        IfOk result (IsOutcomeByFindings found.old (HasNoLinkBreach found.old expected.now) (IsOverLinkBreach load expected.now)) }
+        IfOk result (IsOutcomeOfSearchFindings found.old (HasNoLinkBreach found.old expected.now) (IsLinkWordsBreach load expected.now)) }
     ensures faults { IfErr result (λ why. (why ≡ Full) ⊎ (why ≡ Memory)) }
     ensures same { found.new ≡ found.old }
 {
@@ -55,7 +55,7 @@ fn link_outcome(
 ) -> ExpectationOutcome
     requires { IfNone breach.now (HasNoLinkBreach found.now expected.now) }
     ensures { (load : List NodeRecord) → IfSome breach.now (λ it. IsLinkBreach load expected.now it.events.items it.place it.fault) →
-        IsOutcomeByFindings found.now (HasNoLinkBreach found.now expected.now) (IsOverLinkBreach load expected.now) result }
+        IsOutcomeOfSearchFindings found.now (HasNoLinkBreach found.now expected.now) (IsLinkWordsBreach load expected.now) result }
 {
     match breach {
         Some(it) => ExpectationOutcome::Broken(Breach::OverLink {
@@ -77,9 +77,9 @@ pub(crate) fn tell_link<W: Write>(
     asked: u32,
     writer: &mut W,
 ) -> Verdict
-    requires ends { AreEndsOfChip (chip_of lab.old) found.old }
-    requires said { one.now.expectation ≡ Passes expected.now }
-    ensures { WritesText (λ text. WritesSessionOf request.entry one.now asked lab.old text result) (W.contents writer.old) (W.contents writer.new) }
+    requires ends { AreEndsOfChip (chip_of_machine lab.old) found.old }
+    requires said { one.now.expectation ≡ LinkPassesWords expected.now }
+    ensures { WritesText (λ text. WritesSessionOfExpectation request.entry one.now asked lab.old text result) (W.contents writer.old) (W.contents writer.new) }
 {
     match find_link_breach(alloc, found, expected) {
         Ok(breach) => tell_by_breach(lab, found, one, expected, &breach, request, asked, writer),
@@ -98,11 +98,11 @@ fn tell_by_breach<W: Write>(
     asked: u32,
     writer: &mut W,
 ) -> Verdict
-    requires ends { AreEndsOfChip (chip_of lab.old) found.now }
-    requires said { one.now.expectation ≡ Passes expected.now }
-    requires breach { IfSome breach.now (λ it. IsLinkBreach (chip_of lab.old) expected.now it.events.items it.place it.fault) }
+    requires ends { AreEndsOfChip (chip_of_machine lab.old) found.now }
+    requires said { one.now.expectation ≡ LinkPassesWords expected.now }
+    requires breach { IfSome breach.now (λ it. IsLinkBreach (chip_of_machine lab.old) expected.now it.events.items it.place it.fault) }
     requires none { IfNone breach.now (HasNoLinkBreach found.now expected.now) }
-    ensures { WritesText (λ text. WritesSessionOf request.entry one.now asked lab.old text result) (W.contents writer.old) (W.contents writer.new) }
+    ensures { WritesText (λ text. WritesSessionOfExpectation request.entry one.now asked lab.old text result) (W.contents writer.old) (W.contents writer.new) }
 {
     match breach {
         Some(it) => tell_breach(lab, one, expected, it, request, asked, writer),
@@ -120,12 +120,12 @@ fn tell_breach<W: Write>(
     asked: u32,
     writer: &mut W,
 ) -> Verdict
-    requires said { one.now.expectation ≡ Passes expected.now }
-    requires breach { IsLinkBreach (chip_of lab.old) expected.now breach.now.events.items breach.now.place breach.now.fault }
-    ensures { WritesText (λ text. WritesSessionOf request.entry one.now asked lab.old text result) (W.contents writer.old) (W.contents writer.new) }
+    requires said { one.now.expectation ≡ LinkPassesWords expected.now }
+    requires breach { IsLinkBreach (chip_of_machine lab.old) expected.now breach.now.events.items breach.now.place breach.now.fault }
+    ensures { WritesText (λ text. WritesSessionOfExpectation request.entry one.now asked lab.old text result) (W.contents writer.old) (W.contents writer.new) }
 {
     match make_link_breach(lab, expected, breach) {
-        Ok(()) => tell_saved_as(Verdict::Saved, lab, writer),
+        Ok(()) => tell_saved_as(Verdict::SessionWritten, lab, writer),
         Err(LabFault::Full) => tell_refused(request.format, LabFault::Full, writer),
         Err(_) => tell_refused(request.format, LabFault::Memory, writer),
     }
@@ -140,8 +140,8 @@ fn make_link_breach(
     expected: &LinkExpectation,
     breach: &LinkBreach,
 ) -> Result<(), LabFault>
-    requires { IsLinkBreach (chip_of lab.old) expected.now breach.now.events.items breach.now.place breach.now.fault }
-    ensures led { OnOk result (LeadsToBreach lab.old (Passes expected.now) lab.new) }
+    requires { IsLinkBreach (chip_of_machine lab.old) expected.now breach.now.events.items breach.now.place breach.now.fault }
+    ensures led { OnOk result (LeadsToBreach lab.old (LinkPassesWords expected.now) lab.new) }
     ensures faults { IfErr result (λ why. (why ≡ Full) ⊎ (why ≡ Memory)) }
 {
     make_all(lab, breach.events.as_slice())

@@ -1,10 +1,10 @@
 //! How the words over a link break an expectation, as text and as fields of an object.
 
 ghost use Rattle.std.specs.Prelude.{◌≡◌, ◌≤◌, ◌+◌, ◌%◌, ◌++◌, map, codes, decimal};
-ghost use Rattle.ga_word.specs.Word.{hex6_of, word_modulus};
+ghost use Rattle.ga_word.specs.Word.{hex_digits_of_word, word_modulus};
 ghost use Rattle.arrayvec.specs.ArrayVec.{array_vec_len};
 ghost use Rattle.ga_json.specs.Fields.{named_field_value};
-ghost use Rattle.ga_check_report.specs.LinkFaults.{link_fault_text, link_fault_word, link_fault_details};
+ghost use Rattle.ga_check_report.specs.LinkFaults.{link_fault_text, link_fault_keyword, link_fault_detail_fields};
 
 use crate::json_fields::MAX_DETAILS;
 use ga_json::{Field, RowFields, row_fields};
@@ -31,7 +31,7 @@ fn push_word_number(out: &mut TextBuffer, place: u32)
 /// Adds which word came after all that are expected.
 fn push_further_word(out: &mut TextBuffer, word: u32)
     requires { array_vec_len out.old + FAULT_ROOM ≤ 256 }
-    ensures text { out.new.items ≡ out.old.items ++ (codes "a further word is " ++ hex6_of (word % word_modulus)) }
+    ensures text { out.new.items ≡ out.old.items ++ (codes "a further word is " ++ hex_digits_of_word (word % word_modulus)) }
     ensures len { array_vec_len out.new ≤ array_vec_len out.old + FAULT_ROOM }
 {
     let word = Word18::from_low_bits(word);
@@ -60,8 +60,8 @@ pub(crate) fn push_link_fault(out: &mut TextBuffer, place: u32, fault: LinkFault
 }
 
 /// How they do, in a word.
-pub(crate) fn link_fault_word(fault: LinkFault) -> &'static [u8]
-    ensures { result.now ≡ link_fault_word fault }
+pub(crate) fn link_fault_keyword(fault: LinkFault) -> &'static [u8]
+    ensures { result.now ≡ link_fault_keyword fault }
 {
     match fault {
         LinkFault::OtherWord(_) => b"word",
@@ -72,7 +72,7 @@ pub(crate) fn link_fault_word(fault: LinkFault) -> &'static [u8]
 
 /// The number of the word, from 1 on, and the word that came, if one did.
 pub(crate) fn link_fault_fields<'a>(place: u32, fault: LinkFault) -> RowFields<'a>
-    ensures details { map named_field_value result.items ≡ link_fault_details place fault }
+    ensures details { map named_field_value result.items ≡ link_fault_detail_fields place fault }
     ensures few { array_vec_len result ≤ MAX_DETAILS }
 {
     let number = Field::number(b"place", u64::from(place) + 1);

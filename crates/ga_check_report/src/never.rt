@@ -2,16 +2,16 @@
 
 ghost use Rattle.std.specs.Prelude.{◌≡◌, ◌≤◌, ◌⊎◌, false, length, IfOk, IfErr, IfSome, IfNone};
 ghost use Rattle.ga_text.specs.Output.{WritesExactly, WritesText, ReadsAndWrites};
-ghost use Rattle.ga_lab.specs.Machine.{chip_of};
+ghost use Rattle.ga_lab.specs.Machine.{chip_of_machine};
 ghost use Rattle.ga_lab.specs.declared.fault.LabFault.TheVariants.{Memory, Full};
 ghost use Rattle.ga_state_ends.specs.Ends.{AreEndsOfChip};
 ghost use Rattle.ga_state_conditions.specs.Asked.{parsed_state_conditions};
 ghost use Rattle.ga_state_conditions.specs.Reached.{IsReachedEvent, HasNoReachedEvent};
 ghost use Rattle.ga_check_report.specs.declared.report.Verdict.TheVariants.{Unclean};
 ghost use Rattle.ga_check_report.specs.Answers.{reached_event_answer, unreached_event_answer};
-ghost use Rattle.ga_check_report.specs.Checking.{IsWrittenWithVerdict};
-ghost use Rattle.ga_check_report.specs.Never.{unreached_event_verdict, HasReachedEvent, WritesNeverReport, WritesReportForConditions, IsNeverOutcome};
-ghost use Rattle.ga_check_report.specs.Settled.{check_start};
+ghost use Rattle.ga_check_report.specs.Checking.{IsWrittenWithVerdictOrFails};
+ghost use Rattle.ga_check_report.specs.Never.{unreached_event_verdict, HasReachedEvent, WritesNeverCheckReport, WritesReportForConditions, IsNeverCheckOutcome};
+ghost use Rattle.ga_check_report.specs.Settled.{check_start_state};
 
 use crate::ends_text::is_fully_explored;
 use crate::making::{make, make_all};
@@ -20,17 +20,17 @@ use crate::never_text::{write_made, write_unreached_text};
 use crate::opening::open_program;
 use crate::report::{Verdict, sent, tell_refused, tell_saved_as};
 use crate::request::CheckRequest;
-use crate::settling::settle_waiting_nodes;
+use crate::settling::settle_idle_nodes;
 use ga_explorer::Explorer;
 use ga_json::ReportFormat;
-use ga_lab::{Lab, LabFault, Made};
+use ga_lab::{Lab, LabFault, MadeEvent};
 use ga_state_conditions::{
-    ConditionFault, ReachedEvent, StateCondition, find_reached_event, find_session_reaching,
+    ConditionFault, ReachedEvent, StateCondition, find_reached_event, find_session_reaching_event,
     parse_state_conditions,
 };
 use ga_state_ends::{FoundEnds, find_ends};
 use ga_state_search::SearchControl;
-use ga_text::{Input, WriteResult, Writer};
+use ga_text::{InputBuffer, WriteResult, Writer};
 use std::alloc::Global;
 use std::io::{Read, Write};
 
@@ -40,7 +40,7 @@ use std::io::{Read, Write};
 ///
 /// # Errors
 /// The fault of the conditions. Then nothing is written.
-pub fn check_never<R: Read, W: Write, E: Write>(
+pub fn check_never_conditions<R: Read, W: Write, E: Write>(
     alloc: Global,
     reader: &mut R,
     writer: &mut W,
@@ -53,10 +53,10 @@ pub fn check_never<R: Read, W: Write, E: Write>(
     watch: &SearchControl,
 ) -> Result<Verdict, ConditionFault>
     // If the streams report their bytes: what was read, and what was written for it by the verdict.
-    ensures { ReadsAndWrites (λ read rest text. IsNeverOutcome request.entry limit settles asked.now session read rest text result)
+    ensures { ReadsAndWrites (λ read rest text. IsNeverCheckOutcome request.entry limit settles asked.now session read rest text result)
         (R.remaining reader.old) (R.remaining reader.new) (W.contents writer.old) (W.contents writer.new) }
 {
-    let mut input = Input::new();
+    let mut input = InputBuffer::new();
     match open_program(
         alloc,
         &mut input,
@@ -69,7 +69,7 @@ pub fn check_never<R: Read, W: Write, E: Write>(
         Ok(begun) => answer_conditions(
             alloc, begun, request, settles, asked, session, watch, writer,
         ),
-        Err(status) => Ok(Verdict::Ended(status)),
+        Err(status) => Ok(Verdict::FailedWithStatus(status)),
     }
 }
 
@@ -84,7 +84,7 @@ fn answer_conditions<W: Write>(
     watch: &SearchControl,
     writer: &mut W,
 ) -> Result<Verdict, ConditionFault>
-    ensures { WritesText (λ text. WritesReportForConditions (parsed_state_conditions begun.notes asked.now) request.entry session (check_start settles begun.lab) text result)
+    ensures { WritesText (λ text. WritesReportForConditions (parsed_state_conditions begun.notes asked.now) request.entry session (check_start_state settles begun.lab) text result)
         (W.contents writer.old) (W.contents writer.new) }
 {
     match parse_state_conditions(begun.notes(), asked) {
@@ -114,10 +114,10 @@ fn settle_and_look<W: Write>(
     writer: &mut W,
 ) -> Verdict
     requires few { length conditions.now ≤ 8 }
-    ensures { WritesText (λ text. WritesNeverReport request.entry conditions.now session (check_start settles lab.old) text result)
+    ensures { WritesText (λ text. WritesNeverCheckReport request.entry conditions.now session (check_start_state settles lab.old) text result)
         (W.contents writer.old) (W.contents writer.new) }
 {
-    match settle_waiting_nodes(lab, settles) {
+    match settle_idle_nodes(lab, settles) {
         Ok(()) => look_for(alloc, lab, request, conditions, session, watch, writer),
         Err(_) => tell_refused(request.format, LabFault::Memory, writer),
     }
@@ -134,7 +134,7 @@ fn look_for<W: Write>(
     writer: &mut W,
 ) -> Verdict
     requires few { length conditions.now ≤ 8 }
-    ensures { WritesText (λ text. WritesNeverReport request.entry conditions.now session lab.old text result) (W.contents writer.old) (W.contents writer.new) }
+    ensures { WritesText (λ text. WritesNeverCheckReport request.entry conditions.now session lab.old text result) (W.contents writer.old) (W.contents writer.new) }
 {
     match find_ends(alloc, lab.chip(), request.most, watch) {
         Ok(mut found) => look_among(alloc, lab, &mut found, request, conditions, session, writer),
@@ -153,8 +153,8 @@ fn look_among<W: Write>(
     writer: &mut W,
 ) -> Verdict
     requires few { length conditions.now ≤ 8 }
-    requires ends { AreEndsOfChip (chip_of lab.old) found.old }
-    ensures { WritesText (λ text. WritesNeverReport request.entry conditions.now session lab.old text result) (W.contents writer.old) (W.contents writer.new) }
+    requires ends { AreEndsOfChip (chip_of_machine lab.old) found.old }
+    ensures { WritesText (λ text. WritesNeverCheckReport request.entry conditions.now session lab.old text result) (W.contents writer.old) (W.contents writer.new) }
 {
     match find_reached_event(alloc, found, conditions) {
         Ok(reached) => tell_found_event(
@@ -176,10 +176,10 @@ fn tell_found_event<W: Write>(
     writer: &mut W,
 ) -> Verdict
     requires few { length conditions.now ≤ 8 }
-    requires ends { AreEndsOfChip (chip_of lab.old) found.old }
+    requires ends { AreEndsOfChip (chip_of_machine lab.old) found.old }
     requires reached { IfSome reached (IsReachedEvent found.old conditions.now) }
     requires none { IfNone reached (HasNoReachedEvent found.old conditions.now) }
-    ensures { WritesText (λ text. WritesNeverReport request.entry conditions.now session lab.old text result) (W.contents writer.old) (W.contents writer.new) }
+    ensures { WritesText (λ text. WritesNeverCheckReport request.entry conditions.now session lab.old text result) (W.contents writer.old) (W.contents writer.new) }
 {
     match reached {
         Some(reached) => tell_event(
@@ -201,9 +201,9 @@ fn tell_event<W: Write>(
     writer: &mut W,
 ) -> Verdict
     requires few { length conditions.now ≤ 8 }
-    requires ends { AreEndsOfChip (chip_of lab.old) found.old }
+    requires ends { AreEndsOfChip (chip_of_machine lab.old) found.old }
     requires reached { IsReachedEvent found.old conditions.now reached }
-    ensures { WritesText (λ text. WritesNeverReport request.entry conditions.now session lab.old text result) (W.contents writer.old) (W.contents writer.new) }
+    ensures { WritesText (λ text. WritesNeverCheckReport request.entry conditions.now session lab.old text result) (W.contents writer.old) (W.contents writer.new) }
 {
     match make_reached(alloc, lab, found, reached, conditions) {
         Ok(made) => tell_reached(
@@ -230,15 +230,15 @@ pub(crate) fn make_reached(
     found: &mut FoundEnds,
     reached: ReachedEvent,
     conditions: &[StateCondition],
-) -> Result<Made, LabFault>
+) -> Result<MadeEvent, LabFault>
     requires few { length conditions.now ≤ 8 }
-    requires ends { AreEndsOfChip (chip_of lab.old) found.old }
+    requires ends { AreEndsOfChip (chip_of_machine lab.old) found.old }
     requires reached { IsReachedEvent found.old conditions.now reached }
     ensures made { IfOk result (λ made. HasReachedEvent conditions.now reached.which lab.old lab.new made) }
     ensures faults { IfErr result (λ why. (why ≡ Full) ⊎ (why ≡ Memory)) }
     ensures same { found.new ≡ found.old }
 {
-    match find_session_reaching(alloc, found, conditions, reached) {
+    match find_session_reaching_event(alloc, found, conditions, reached) {
         Ok(events) => {
             make_all(lab, events.as_slice())?;
             make(lab, reached.event)
@@ -253,11 +253,11 @@ fn tell_reached<W: Write>(
     format: ReportFormat<'_>,
     conditions: usize,
     which: u8,
-    made: Made,
+    made: MadeEvent,
     session: bool,
     writer: &mut W,
 ) -> Verdict
-    ensures { WritesText (λ text. IsWrittenWithVerdict (reached_event_answer format.entry session conditions which made lab.now) Unclean text result)
+    ensures { WritesText (λ text. IsWrittenWithVerdictOrFails (reached_event_answer format.entry session conditions which made lab.now) Unclean text result)
         (W.contents writer.old) (W.contents writer.new) }
 {
     if session {
@@ -273,10 +273,10 @@ fn tell_made<W: Write>(
     format: ReportFormat<'_>,
     conditions: usize,
     which: u8,
-    made: Made,
+    made: MadeEvent,
     writer: &mut W,
 ) -> Verdict
-    ensures { WritesText (λ text. IsWrittenWithVerdict (reached_event_answer format.entry false conditions which made lab.now) Unclean text result)
+    ensures { WritesText (λ text. IsWrittenWithVerdictOrFails (reached_event_answer format.entry false conditions which made lab.now) Unclean text result)
         (W.contents writer.old) (W.contents writer.new) }
 {
     let mut out = Writer::new(writer);
@@ -293,7 +293,7 @@ fn write_reached<W: Write>(
     format: ReportFormat<'_>,
     conditions: usize,
     which: u8,
-    made: Made,
+    made: MadeEvent,
     writer: &mut Writer<'_, W>,
 ) -> WriteResult
     ensures { WritesExactly result (reached_event_answer format.entry false conditions which made lab.now) W.contents writer.old writer.new }
@@ -308,7 +308,7 @@ fn write_reached<W: Write>(
 
 /// Writes that no such event was found, and what is pending.
 fn tell_unreached<W: Write>(request: CheckRequest<'_>, found: &FoundEnds, writer: &mut W) -> Verdict
-    ensures { WritesText (λ text. IsWrittenWithVerdict (unreached_event_answer request.entry found.now) (unreached_event_verdict found.now) text result)
+    ensures { WritesText (λ text. IsWrittenWithVerdictOrFails (unreached_event_answer request.entry found.now) (unreached_event_verdict found.now) text result)
         (W.contents writer.old) (W.contents writer.new) }
 {
     let mut out = Writer::new(writer);

@@ -4,13 +4,13 @@ ghost use Rattle.std.specs.Prelude.{◌≡◌, ◌+◌, ◌++◌, codes, map};
 ghost use Rattle.ga_text.specs.Output.{WritesExactly};
 ghost use Rattle.ga_json.specs.Values.{string};
 ghost use Rattle.ga_json.specs.Fields.{named_field_value};
-ghost use Rattle.ga_check_report.specs.EventJson.{event_details};
-ghost use Rattle.ga_check_report.specs.NeverJson.{unreached_event_word, unreached_event_fields, unreached_event_json, reached_event_fields, reached_event_json};
+ghost use Rattle.ga_check_report.specs.EventJson.{event_detail_fields};
+ghost use Rattle.ga_check_report.specs.NeverJson.{unreached_event_outcome_keyword, unreached_event_fields, unreached_event_json, reached_event_fields, reached_event_json};
 
 use crate::ends_text::is_fully_explored;
-use crate::json_fields::{event_fields, search_fields};
+use crate::json_fields::{event_fields, search_result_fields};
 use ga_json::{Field, RowFields, row_fields, text_field, write_object};
-use ga_lab::Made;
+use ga_lab::MadeEvent;
 use ga_state_ends::FoundEnds;
 use ga_text::{WriteResult, Writer};
 use std::io::Write;
@@ -34,7 +34,7 @@ pub(crate) fn write_unreached_json<W: Write>(
 fn unreached_event_fields<'a>(file: &'a [u8], found: &FoundEnds) -> RowFields<'a>
     ensures { map named_field_value result.items ≡ unreached_event_fields file.now found.now }
 {
-    let mut fields = search_fields(b"never", file, found);
+    let mut fields = search_result_fields(b"never", file, found);
     let outcome = unreached_field(found);
     let _fits = fields.try_extend_from_slice(&[outcome]);
     fields
@@ -42,7 +42,7 @@ fn unreached_event_fields<'a>(file: &'a [u8], found: &FoundEnds) -> RowFields<'a
 
 /// What is known where no such event was found.
 fn unreached_field<'a>(found: &FoundEnds) -> Field<'a>
-    ensures { named_field_value result ≡ (codes "outcome", string (unreached_event_word found.now)) }
+    ensures { named_field_value result ≡ (codes "outcome", string (unreached_event_outcome_keyword found.now)) }
 {
     if is_fully_explored(found) {
         Field::text(b"outcome", b"holds")
@@ -59,7 +59,7 @@ pub(crate) fn write_reached_json<W: Write>(
     file: &[u8],
     events: u32,
     which: u8,
-    made: Made,
+    made: MadeEvent,
     writer: &mut Writer<'_, W>,
 ) -> WriteResult
     ensures { WritesExactly result (reached_event_json file.now events which made) W.contents writer.old writer.new }
@@ -69,8 +69,13 @@ pub(crate) fn write_reached_json<W: Write>(
 }
 
 /// The fields of that object.
-fn reached_event_fields<'a>(file: &'a [u8], events: u32, which: u8, made: Made) -> RowFields<'a>
-    ensures { map named_field_value result.items ≡ reached_event_fields file.now events (which + 1) ++ event_details made }
+fn reached_event_fields<'a>(
+    file: &'a [u8],
+    events: u32,
+    which: u8,
+    made: MadeEvent,
+) -> RowFields<'a>
+    ensures { map named_field_value result.items ≡ reached_event_fields file.now events (which + 1) ++ event_detail_fields made }
 {
     let mut fields = row_fields(&[
         Field::text(b"answer", b"never"),

@@ -8,7 +8,7 @@ use crate::ends_text::{push_counted, stopped_line};
 use crate::request::CheckRequest;
 use arrayvec::ArrayVec;
 use ga_explorer_text::run_result_text;
-use ga_lab::{Lab, Made};
+use ga_lab::{Lab, MadeEvent};
 use ga_scheduler::{RunEnd, RunResult, Schedule};
 use ga_state_ends::FoundEnds;
 use ga_state_search::SearchFault;
@@ -23,15 +23,15 @@ pub(crate) fn write_made<W: Write>(
     lab: &Lab,
     conditions: usize,
     which: u8,
-    made: Made,
+    made: MadeEvent,
     writer: &mut Writer<'_, W>,
 ) -> WriteResult
     ensures { WritesExactly result (reached_event_text false conditions which made lab.now) W.contents writer.old writer.new }
 {
     let ran = RunResult {
         events: u64::from(lab.counts().kept),
-        end: RunEnd::Reached { made, which },
-        schedule: Schedule::round_robin(),
+        end: RunEnd::ConditionHeld { made, which },
+        schedule: Schedule::round_robin_schedule(),
     };
     writer.write_blocks(run_result_text(&ran, conditions).as_slice())
 }

@@ -5,7 +5,7 @@ ghost use Rattle.ga_json.specs.Values.{item, no_items};
 ghost use Rattle.ga_state_ends.specs.declared.end_kind.NodeEnd.TheVariants.{Stopped};
 ghost use Rattle.ga_json.specs.Fields.{named_field_value, json_object};
 ghost use Rattle.ga_check_report.specs.EndTexts.{node_end_at};
-ghost use Rattle.ga_check_report.specs.EndJson.{is_idle_end, is_listed_node_end, node_action_fields, node_end_fields, node_row_fields, node_rows};
+ghost use Rattle.ga_check_report.specs.EndJson.{is_idle_node_end, is_listed_node_end, node_action_fields, node_end_fields, node_row_fields, end_node_rows};
 
 use crate::end_nodes::{is_unclean, node_end_at};
 use ga_grid::NodeId;
@@ -31,7 +31,7 @@ impl<'a> NodeRows<'a> {
 }
 
 impl<'a> RowCursor<'a> for NodeRows<'a> {
-    ghost left = { λ rows. node_rows rows.kind.now rows.next (144 - rows.next) };
+    ghost left = { λ rows. end_node_rows rows.kind.now rows.next (144 - rows.next) };
 
     fn next(&mut self) -> Option<RowFields<'a>> {
         match next_listed(self.kind, self.next) {
@@ -49,9 +49,9 @@ impl<'a> RowCursor<'a> for NodeRows<'a> {
 
 /// The first node from this number on that has a row.
 fn next_listed(kind: &EndKind, from: u8) -> Option<NodeId>
-    ensures there { IfSome result (λ node. node_rows kind.now from (144 - from)
-        ≡ item (json_object (node_row_fields kind.now node.number)) (node_rows kind.now (node.number + 1) (144 - (node.number + 1)))) }
-    ensures none { IfNone result (node_rows kind.now from (144 - from) ≡ no_items) }
+    ensures there { IfSome result (λ node. end_node_rows kind.now from (144 - from)
+        ≡ item (json_object (node_row_fields kind.now node.number)) (end_node_rows kind.now (node.number + 1) (144 - (node.number + 1)))) }
+    ensures none { IfNone result (end_node_rows kind.now from (144 - from) ≡ no_items) }
 {
     'nodes: for number in from..144 {
         let node = NodeId::new(number);
@@ -76,11 +76,11 @@ fn is_listed(kind: &EndKind, node: NodeId) -> bool
 fn is_listed_node_end(end: NodeEnd, is_unclean: bool) -> bool
     ensures { result ≡ is_listed_node_end end is_unclean }
 {
-    !is_idle_end(end) || is_unclean
+    !is_idle_node_end(end) || is_unclean
 }
 
-fn is_idle_end(end: NodeEnd) -> bool
-    ensures { result ≡ is_idle_end end }
+fn is_idle_node_end(end: NodeEnd) -> bool
+    ensures { result ≡ is_idle_node_end end }
 {
     match end {
         NodeEnd::KeepsRunning => false,

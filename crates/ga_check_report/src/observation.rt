@@ -1,8 +1,8 @@
 //! What a node holds or does on a chip on which an expectation isn't met.
 
 ghost use Rattle.std.specs.Prelude.{◌≡◌};
-ghost use Rattle.ga_node.specs.Record.{record_of};
-ghost use Rattle.ga_check_report.specs.Observations.{observation_by_wait, observed_action, observation_of_node};
+ghost use Rattle.ga_node.specs.Record.{record_of_node};
+ghost use Rattle.ga_check_report.specs.Observations.{observation_of_wait, observed_node_activity, observation_for_requirement};
 
 use crate::node_value::node_value;
 use crate::outcome::NodeObservation;
@@ -11,8 +11,8 @@ use ga_state_expectations::NodeRequirement;
 use ga_word::Word18;
 
 /// What a node does that waits so and isn't stopped.
-fn observation_by_wait(wait: Wait) -> NodeObservation
-    ensures { result ≡ observation_by_wait wait }
+fn observation_of_wait(wait: Wait) -> NodeObservation
+    ensures { result ≡ observation_of_wait wait }
 {
     match wait {
         Wait::Nothing => NodeObservation::Runs,
@@ -23,28 +23,31 @@ fn observation_by_wait(wait: Wait) -> NodeObservation
 }
 
 /// What a node does.
-fn observed_action(node: &Node) -> NodeObservation
-    ensures { result ≡ observed_action (record_of node.now) }
+fn observed_node_activity(node: &Node) -> NodeObservation
+    ensures { result ≡ observed_node_activity (record_of_node node.now) }
 {
     let stop = node.stop();
     if stop == 0 {
-        observation_by_wait(node.wait())
+        observation_of_wait(node.wait())
     } else {
         NodeObservation::Stopped(stop)
     }
 }
 
 /// What a node has of what is required: the value that is tested, or else what it does.
-pub(crate) fn observation_of_node(requirement: &NodeRequirement, node: &Node) -> NodeObservation
-    ensures { result ≡ observation_of_node requirement.now (record_of node.now) }
+pub(crate) fn observation_for_requirement(
+    requirement: &NodeRequirement,
+    node: &Node,
+) -> NodeObservation
+    ensures { result ≡ observation_for_requirement requirement.now (record_of_node node.now) }
 {
     match requirement {
-        NodeRequirement::Holds(test) => {
+        NodeRequirement::PassesValueTest(test) => {
             NodeObservation::Is(Word18::from_low_bits(node_value(node, test.value)))
         }
-        NodeRequirement::Reads(_) => observed_action(node),
-        NodeRequirement::Writes(_) => observed_action(node),
-        NodeRequirement::AwaitsCode => observed_action(node),
-        NodeRequirement::Stopped(_) => observed_action(node),
+        NodeRequirement::ReadsFromSides(_) => observed_node_activity(node),
+        NodeRequirement::WritesToSide(_) => observed_node_activity(node),
+        NodeRequirement::AwaitsCode => observed_node_activity(node),
+        NodeRequirement::Stopped(_) => observed_node_activity(node),
     }
 }

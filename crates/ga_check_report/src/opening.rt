@@ -4,16 +4,16 @@ ghost use Rattle.std.specs.Prelude.{◌≡◌, ◌++◌, [], Some};
 ghost use Rattle.ga_text.specs.Lines.{Bytes};
 ghost use Rattle.ga_text.specs.Input.{IsWithinInputLimit};
 ghost use Rattle.ga_text.specs.Output.{IsTextWrittenOrTruncated, IsSameStream, WritesExactly, WritesText};
-ghost use Rattle.ga_explorer.specs.Opening.{image_text_of};
-ghost use Rattle.ga_check_report.specs.Opened.{IsWrittenWithStatus, IsOpenedForJsonOutput};
-ghost use Rattle.ga_check_report.specs.inner.{IsProgramOpened, told_lines};
+ghost use Rattle.ga_explorer.specs.Opening.{optional_image_text};
+ghost use Rattle.ga_check_report.specs.Opened.{IsWrittenWithStatus, IsJsonSessionOpenResult};
+ghost use Rattle.ga_check_report.specs.inner.{IsProgramOpenResult, refusal_reason_lines};
 ghost use Rattle.ga_json.specs.Diagnostics.{diagnostics_json};
 ghost use Rattle.ga_json.specs.declared.format.ReportFormat.TheVariants.{Json};
 
 use ga_console::Status;
 use ga_explorer::{Explorer, open_lab};
 use ga_json::{ReportFormat, write_diagnostics};
-use ga_text::{Input, WriteResult, Writer, write_all};
+use ga_text::{InputBuffer, WriteResult, Writer, write_all};
 use std::alloc::Global;
 use std::io::{Read, Write};
 
@@ -27,7 +27,7 @@ const NO_MEMORY: &[u8] = b"ga144: no memory\n";
 /// The status of a program that ends so.
 pub(crate) fn open_program<R: Read, W: Write, E: Write>(
     alloc: Global,
-    input: &mut Input,
+    input: &mut InputBuffer,
     reader: &mut R,
     writer: &mut W,
     errors: &mut E,
@@ -38,12 +38,12 @@ pub(crate) fn open_program<R: Read, W: Write, E: Write>(
     ensures begun { (left before : Bytes) →
         R.remaining reader.old ≡ Some left → W.contents writer.old ≡ Some before →
         (rest text : Bytes) × (R.remaining reader.new ≡ Some rest) × (W.contents writer.new ≡ Some (before ++ text))
-        × IsProgramOpened format.entry limit left input.new rest text result }
+        × IsProgramOpenResult format.entry limit left input.new rest text result }
 {
     match format {
         ReportFormat::Text => open_lab(alloc, input, reader, writer, errors, None, limit),
         ReportFormat::Json(file) => {
-            open_for_json_output(alloc, input, reader, writer, errors, file, None, limit)
+            open_lab_with_json_refusals(alloc, input, reader, writer, errors, file, None, limit)
         }
     }
 }
@@ -53,9 +53,9 @@ pub(crate) fn open_program<R: Read, W: Write, E: Write>(
 ///
 /// # Errors
 /// The status of a program that ends so.
-pub fn open_for_json_output<R: Read, W: Write, E: Write>(
+pub fn open_lab_with_json_refusals<R: Read, W: Write, E: Write>(
     alloc: Global,
-    input: &mut Input,
+    input: &mut InputBuffer,
     reader: &mut R,
     writer: &mut W,
     errors: &mut E,
@@ -67,7 +67,7 @@ pub fn open_for_json_output<R: Read, W: Write, E: Write>(
     ensures begun { (left before : Bytes) →
         R.remaining reader.old ≡ Some left → W.contents writer.old ≡ Some before →
         (rest text : Bytes) × (R.remaining reader.new ≡ Some rest) × (W.contents writer.new ≡ Some (before ++ text))
-        × IsOpenedForJsonOutput (image_text_of chip) file.now limit left input.new rest text result }
+        × IsJsonSessionOpenResult (optional_image_text chip) file.now limit left input.new rest text result }
     ensures within { IsWithinInputLimit input.new }
 {
     let mut reason = Vec::new(alloc);
@@ -77,20 +77,20 @@ pub fn open_for_json_output<R: Read, W: Write, E: Write>(
     match opened {
         Ok(begun) => Ok(begun),
         Err(status) => {
-            let lines = told_lines(errors, status, reason.as_slice(), told.as_slice());
+            let lines = refusal_reason_lines(errors, status, reason.as_slice(), told.as_slice());
             Err(tell_unopened(file, reason.as_slice(), lines, status, writer))
         }
     }
 }
 
 /// What standard error has of a program that isn't opened. If no memory was left for the reason, this is said there, too.
-fn told_lines<'a, E: Write>(
+fn refusal_reason_lines<'a, E: Write>(
     errors: &mut E,
     status: Status,
     reason: &[u8],
     told: &'a [u8],
 ) -> &'a [u8]
-    ensures { result.now ≡ told_lines status reason.now told.entry.now }
+    ensures { result.now ≡ refusal_reason_lines status reason.now told.entry.now }
 {
     if status == Status::ImageRefused && reason.is_empty() && told.is_empty() {
         let _written = write_all(errors, NO_MEMORY);

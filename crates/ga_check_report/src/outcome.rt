@@ -5,7 +5,7 @@ ghost use Rattle.std.specs.List.{list_any};
 ghost use Rattle.ga_check_report.specs.Outcomes.{is_outcome_broken, is_outcome_unknown, outcomes_verdict};
 
 use crate::report::Verdict;
-use ga_lab::Made;
+use ga_lab::MadeEvent;
 use ga_ports::{PortSet, Side};
 use ga_state_links::LinkFault;
 use ga_word::Word18;
@@ -36,7 +36,7 @@ pub(crate) enum Breach {
         observation: NodeObservation,
     },
     /// An event after which one of the conditions holds.
-    Reached(Made),
+    Reached(MadeEvent),
     /// A word over a link that isn't the expected one, or never comes; and the number of words that come before it.
     OverLink {
         place: u32,
@@ -60,7 +60,7 @@ pub(crate) enum ExpectationOutcome {
 }
 
 /// The types within an outcome: where outcomes are in a `Vec`, this kit's borrow checker has to meet them in the function.
-pub(crate) type OutcomeParts = (Breach, NodeObservation, Made, LinkFault);
+pub(crate) type OutcomeParts = (Breach, NodeObservation, MadeEvent, LinkFault);
 
 /// Whether the expectation doesn't hold in some order.
 fn is_outcome_broken(outcome: ExpectationOutcome) -> bool

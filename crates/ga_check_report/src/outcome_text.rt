@@ -4,7 +4,7 @@ ghost use Rattle.std.specs.Prelude.{◌≡◌, ◌≤◌, ◌+◌, ◌++◌, len
 ghost use Rattle.arrayvec.specs.ArrayVec.{array_vec_len};
 ghost use Rattle.ga_text.specs.Output.{WritesExactly};
 ghost use Rattle.ga_ports.specs.Address.{single_side_set};
-ghost use Rattle.ga_check_report.specs.ExpectationTexts.{optional_side_text, side_words, observation_text, session_option_text, breach_text, outcome_text, expectation_line_start, expectation_line, expectations_header, missing_session_text};
+ghost use Rattle.ga_check_report.specs.ExpectationTexts.{optional_side_text, side_names_after_blanks, observation_text, session_option_text, breach_text, outcome_text, expectation_line_start, expectation_line, expectations_header, no_such_expectation_text};
 
 use crate::decision_text::{MADE_ROOM, push_made};
 use crate::ends_text::{at_least_text, push_counted};
@@ -44,7 +44,7 @@ fn push_side_if(out: &mut TextBuffer, is_there: bool, name: &[u8])
 /// Adds sides, each after a blank.
 pub(crate) fn push_sides(out: &mut TextBuffer, sides: PortSet)
     requires { array_vec_len out.old + SIDES_ROOM ≤ 256 }
-    ensures text { out.new.items ≡ out.old.items ++ side_words sides }
+    ensures text { out.new.items ≡ out.old.items ++ side_names_after_blanks sides }
     ensures len { array_vec_len out.new ≤ array_vec_len out.old + SIDES_ROOM }
 {
     push_side_if(out, sides.has(Side::Right), b" right");
@@ -57,7 +57,7 @@ pub(crate) fn push_sides(out: &mut TextBuffer, sides: PortSet)
 pub(crate) fn sides_of(side: Side) -> PortSet
     ensures { result ≡ single_side_set side }
 {
-    PortSet::of(side.bit())
+    PortSet::from_bits(side.bit_in_set())
 }
 
 /// Adds what a node holds or does.
@@ -199,8 +199,8 @@ pub(crate) fn no_session_front(asked: u32) -> TextBuffer
 }
 
 /// That there are only this number of expectations.
-pub(crate) fn missing_session_text(asked: u32, expectations: usize) -> TextBuffer
-    ensures { result.items ≡ missing_session_text asked expectations }
+pub(crate) fn no_such_expectation_text(asked: u32, expectations: usize) -> TextBuffer
+    ensures { result.items ≡ no_such_expectation_text asked expectations }
 {
     let mut out = no_session_front(asked);
     push_counted(&mut out, expectations as u64, b" expectation");

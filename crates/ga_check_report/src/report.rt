@@ -4,32 +4,32 @@ ghost use Rattle.std.specs.Prelude.{◌≡◌, ◌≤◌, ◌<◌, ◌⊎◌, �
 ghost use Rattle.std.specs.List.{list_any};
 ghost use Rattle.ga_text.specs.Lines.{Bytes};
 ghost use Rattle.ga_text.specs.Output.{IsTextWrittenOrTruncated, IsSameStream, WritesExactly, WritesText, ReadsAndWrites};
-ghost use Rattle.ga_lab.specs.Machine.{chip_of};
-ghost use Rattle.ga_explorer_text.specs.Saved.{saved_text};
+ghost use Rattle.ga_lab.specs.Machine.{chip_of_machine};
+ghost use Rattle.ga_explorer_text.specs.Saved.{saved_session_text};
 ghost use Rattle.ga_console.specs.declared.run.Status.TheVariants.{ImageRefused};
 ghost use Rattle.ga_state_ends.specs.Ends.{AreEndsOfChip, is_unclean};
 ghost use Rattle.ga_lab.specs.declared.fault.LabFault.TheVariants.{Memory, Full};
-ghost use Rattle.ga_check_report.specs.Settled.{check_start};
-ghost use Rattle.ga_check_report.specs.EndTexts.{missing_kind_text};
-ghost use Rattle.ga_check_report.specs.Answers.{refusal_answer, ends_answer, ends_answer_by};
-ghost use Rattle.ga_check_report.specs.Checking.{WritesEndsReport, IsCheckOutcome, IsWrittenWithVerdict, HasReachedEndKind, kinds_verdict, ends_verdict, missing_kind_verdict};
-ghost use Rattle.ga_check_report.specs.declared.report.Verdict.TheVariants.{Saved, Ended};
+ghost use Rattle.ga_check_report.specs.Settled.{check_start_state};
+ghost use Rattle.ga_check_report.specs.EndTexts.{no_such_end_kind_text};
+ghost use Rattle.ga_check_report.specs.Answers.{refusal_answer, ends_answer, ends_answer_in_format};
+ghost use Rattle.ga_check_report.specs.Checking.{WritesEndsReport, IsCheckOutcome, IsWrittenWithVerdictOrFails, HasReachedEndOfNumberedKind, end_kinds_verdict, ends_verdict, missing_end_kind_verdict};
+ghost use Rattle.ga_check_report.specs.declared.report.Verdict.TheVariants.{SessionWritten, FailedWithStatus};
 
 use crate::ends_json::write_ends_json;
 use crate::ends_text::{is_fully_explored, write_ends, write_no_kind};
 use crate::making::make_all;
 use crate::opening::open_program;
 use crate::request::CheckRequest;
-use crate::same_end::{verdict_with_same, write_same};
-use crate::settling::settle_waiting_nodes;
+use crate::same_end::{verdict_with_single_end_outcome, write_same};
+use crate::settling::settle_idle_nodes;
 use ga_console::Status;
 use ga_display::refusal_text;
-use ga_explorer_text::write_save;
+use ga_explorer_text::write_saved_session;
 use ga_json::{ReportFormat, write_diagnostics};
 use ga_lab::{Lab, LabFault};
 use ga_state_ends::{EndKind, FoundEnds, find_ends};
 use ga_state_search::SearchControl;
-use ga_text::{Input, WriteResult, Writer};
+use ga_text::{InputBuffer, WriteResult, Writer};
 use std::alloc::Global;
 use std::io::{Read, Write};
 
@@ -45,9 +45,9 @@ pub enum Verdict {
     /// A bound was met, and each end that was found is clean, or what was asked for wasn't found, or no expectation is broken.
     Unknown,
     /// The session of a kind of end or of an expectation was written.
-    Saved,
+    SessionWritten,
     /// Nothing was found out, or a write failed.
-    Ended(Status),
+    FailedWithStatus(Status),
 }
 
 /// Reads an image or source, as `explore` does, and nothing after its line `end`. Writes the kinds of its ends, whatever the order in which its
@@ -70,7 +70,7 @@ pub fn check_ends<R: Read, W: Write, E: Write>(
     ensures { ReadsAndWrites (λ read rest text. IsCheckOutcome request.entry limit settles asked read rest text result)
         (R.remaining reader.old) (R.remaining reader.new) (W.contents writer.old) (W.contents writer.new) }
 {
-    let mut input = Input::new();
+    let mut input = InputBuffer::new();
     match open_program(
         alloc,
         &mut input,
@@ -89,7 +89,7 @@ pub fn check_ends<R: Read, W: Write, E: Write>(
             watch,
             writer,
         ),
-        Err(status) => Verdict::Ended(status),
+        Err(status) => Verdict::FailedWithStatus(status),
     }
 }
 
@@ -103,10 +103,10 @@ fn tell_settled<W: Write>(
     watch: &SearchControl,
     writer: &mut W,
 ) -> Verdict
-    ensures { WritesText (λ text. WritesEndsReport request.entry asked (check_start settles lab.old) text result)
+    ensures { WritesText (λ text. WritesEndsReport request.entry asked (check_start_state settles lab.old) text result)
         (W.contents writer.old) (W.contents writer.new) }
 {
-    match settle_waiting_nodes(lab, settles) {
+    match settle_idle_nodes(lab, settles) {
         Ok(()) => tell_ends(alloc, lab, request, asked, watch, writer),
         Err(_) => tell_refused(request.format, LabFault::Memory, writer),
     }
@@ -138,7 +138,7 @@ fn tell_found<W: Write>(
     asked: u32,
     writer: &mut W,
 ) -> Verdict
-    requires { AreEndsOfChip (chip_of lab.old) found.now }
+    requires { AreEndsOfChip (chip_of_machine lab.old) found.now }
     ensures { WritesText (λ text. WritesEndsReport request.entry asked lab.old text result) (W.contents writer.old) (W.contents writer.new) }
 {
     if asked == 0 {
@@ -169,11 +169,11 @@ fn tell_session<W: Write>(
 ) -> Verdict
     requires asked { 1 ≤ asked }
     requires within { asked ≤ length found.now.kinds }
-    requires ends { AreEndsOfChip (chip_of lab.old) found.now }
+    requires ends { AreEndsOfChip (chip_of_machine lab.old) found.now }
     ensures { WritesText (λ text. WritesEndsReport request.entry asked lab.old text result) (W.contents writer.old) (W.contents writer.new) }
 {
     match lead_to(alloc, lab, found, asked) {
-        Ok(()) => tell_saved_as(Verdict::Saved, lab, writer),
+        Ok(()) => tell_saved_as(Verdict::SessionWritten, lab, writer),
         Err(LabFault::Full) => tell_refused(request.format, LabFault::Full, writer),
         Err(_) => tell_refused(request.format, LabFault::Memory, writer),
     }
@@ -186,11 +186,11 @@ fn tell_session<W: Write>(
 fn lead_to(alloc: Global, lab: &mut Lab, found: &FoundEnds, asked: u32) -> Result<(), LabFault>
     requires asked { 1 ≤ asked }
     requires within { asked ≤ length found.now.kinds }
-    requires ends { AreEndsOfChip (chip_of lab.old) found.now }
-    ensures led { OnOk result (HasReachedEndKind found.now asked lab.old lab.new) }
+    requires ends { AreEndsOfChip (chip_of_machine lab.old) found.now }
+    ensures led { OnOk result (HasReachedEndOfNumberedKind found.now asked lab.old lab.new) }
     ensures faults { IfErr result (λ why. (why ≡ Full) ⊎ (why ≡ Memory)) }
 {
-    match found.path_to(alloc, found.kinds()[asked as usize - 1].state) {
+    match found.path_from_initial_state(alloc, found.kinds()[asked as usize - 1].state) {
         Ok(events) => make_all(lab, events.as_slice()),
         Err(_) => Err(LabFault::Memory),
     }
@@ -198,7 +198,7 @@ fn lead_to(alloc: Global, lab: &mut Lab, found: &FoundEnds, asked: u32) -> Resul
 
 /// Writes the kinds of end.
 fn tell_all<W: Write>(request: CheckRequest<'_>, found: &FoundEnds, writer: &mut W) -> Verdict
-    ensures { WritesText (λ text. IsWrittenWithVerdict (ends_answer request.entry found.now) (ends_verdict request.entry found.now) text result)
+    ensures { WritesText (λ text. IsWrittenWithVerdictOrFails (ends_answer request.entry found.now) (ends_verdict request.entry found.now) text result)
         (W.contents writer.old) (W.contents writer.new) }
 {
     let mut out = Writer::new(writer);
@@ -230,7 +230,7 @@ fn write_kinds<W: Write>(
     found: &FoundEnds,
     writer: &mut Writer<'_, W>,
 ) -> WriteResult
-    ensures { WritesExactly result (ends_answer_by request.entry.format request.entry found.now) W.contents writer.old writer.new }
+    ensures { WritesExactly result (ends_answer_in_format request.entry.format request.entry found.now) W.contents writer.old writer.new }
 {
     match request.format {
         ReportFormat::Text => write_ends(request, found, writer),
@@ -240,20 +240,20 @@ fn write_kinds<W: Write>(
 
 /// Writes that there is no kind of end of this number.
 fn tell_none<W: Write>(asked: u32, found: &FoundEnds, writer: &mut W) -> Verdict
-    ensures { WritesText (λ text. IsWrittenWithVerdict (missing_kind_text asked found.now) (missing_kind_verdict found.now) text result)
+    ensures { WritesText (λ text. IsWrittenWithVerdictOrFails (no_such_end_kind_text asked found.now) (missing_end_kind_verdict found.now) text result)
         (W.contents writer.old) (W.contents writer.new) }
 {
     let mut out = Writer::new(writer);
     let said = write_no_kind(asked, found, &mut out);
-    sent(said, missing_kind_verdict(found), &mut out)
+    sent(said, missing_end_kind_verdict(found), &mut out)
 }
 
 /// Writes the session that leads to the current state of a lab, and returns this verdict.
 pub(crate) fn tell_saved_as<W: Write>(verdict: Verdict, lab: &Lab, writer: &mut W) -> Verdict
-    ensures { WritesText (λ text. IsWrittenWithVerdict (saved_text lab.now) verdict text result) (W.contents writer.old) (W.contents writer.new) }
+    ensures { WritesText (λ text. IsWrittenWithVerdictOrFails (saved_session_text lab.now) verdict text result) (W.contents writer.old) (W.contents writer.new) }
 {
     let mut out = Writer::new(writer);
-    let said = write_save(lab, &mut out);
+    let said = write_saved_session(lab, &mut out);
     sent(said, verdict, &mut out)
 }
 
@@ -263,12 +263,16 @@ pub(crate) fn tell_refused<W: Write>(
     fault: LabFault,
     writer: &mut W,
 ) -> Verdict
-    ensures { WritesText (λ text. IsWrittenWithVerdict (refusal_answer format.entry fault) (Ended ImageRefused) text result)
+    ensures { WritesText (λ text. IsWrittenWithVerdictOrFails (refusal_answer format.entry fault) (FailedWithStatus ImageRefused) text result)
         (W.contents writer.old) (W.contents writer.new) }
 {
     let mut out = Writer::new(writer);
     let said = write_refusal(format, fault, &mut out);
-    sent(said, Verdict::Ended(Status::ImageRefused), &mut out)
+    sent(
+        said,
+        Verdict::FailedWithStatus(Status::ImageRefused),
+        &mut out,
+    )
 }
 
 /// Writes a refusal in the format that was asked for.
@@ -297,14 +301,14 @@ pub(crate) fn sent<W: Write>(
 ) -> Verdict
     ensures same { IsSameStream writer.old writer.new }
     ensures written { (before whole : Bytes) → IsTextWrittenOrTruncated said (W.contents writer.old.stream.now) before whole writer.old.pending.items →
-        (text : Bytes) × (W.contents writer.new.stream.now ≡ Some (before ++ text)) × IsWrittenWithVerdict whole verdict text result }
+        (text : Bytes) × (W.contents writer.new.stream.now ≡ Some (before ++ text)) × IsWrittenWithVerdictOrFails whole verdict text result }
 {
     match said {
         Ok(()) => match writer.flush() {
             Ok(()) => verdict,
-            Err(_) => Verdict::Ended(Status::StreamFault),
+            Err(_) => Verdict::FailedWithStatus(Status::StreamFault),
         },
-        Err(_) => Verdict::Ended(Status::StreamFault),
+        Err(_) => Verdict::FailedWithStatus(Status::StreamFault),
     }
 }
 
@@ -312,12 +316,12 @@ pub(crate) fn sent<W: Write>(
 fn ends_verdict(request: CheckRequest<'_>, found: &FoundEnds) -> Verdict
     ensures { result ≡ ends_verdict request.entry found.now }
 {
-    verdict_with_same(request.same, found, kinds_verdict(found))
+    verdict_with_single_end_outcome(request.same, found, end_kinds_verdict(found))
 }
 
 /// Whether an end that isn't clean was found, or there is none, or there may be others.
-fn kinds_verdict(found: &FoundEnds) -> Verdict
-    ensures { result ≡ kinds_verdict found.now }
+fn end_kinds_verdict(found: &FoundEnds) -> Verdict
+    ensures { result ≡ end_kinds_verdict found.now }
 {
     if has_unclean(found.kinds()) {
         Verdict::Unclean
@@ -336,11 +340,11 @@ fn has_unclean(kinds: &[EndKind]) -> bool
 }
 
 /// The verdict where no kind of end has the number in question.
-fn missing_kind_verdict(found: &FoundEnds) -> Verdict
-    ensures { result ≡ missing_kind_verdict found.now }
+fn missing_end_kind_verdict(found: &FoundEnds) -> Verdict
+    ensures { result ≡ missing_end_kind_verdict found.now }
 {
     if is_fully_explored(found) {
-        Verdict::Ended(Status::ImageRefused)
+        Verdict::FailedWithStatus(Status::ImageRefused)
     } else {
         Verdict::Unknown
     }

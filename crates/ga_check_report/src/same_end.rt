@@ -6,10 +6,10 @@ ghost use Rattle.ga_json.specs.Compact.{json_line};
 ghost use Rattle.ga_json.specs.Fields.{named_field_value, json_object};
 ghost use Rattle.ga_check_report.specs.Answers.{expectations_answer};
 ghost use Rattle.ga_check_report.specs.Outcomes.{expectations_verdict};
-ghost use Rattle.ga_check_report.specs.SameEnd.{one_end_outcome, one_end_line, one_end_fields, one_end_answer, same_answer, verdict_if_unknown, verdict_with_outcome, verdict_with_same};
+ghost use Rattle.ga_check_report.specs.SameEnd.{single_end_expectation_outcome, single_end_outcome_line, single_end_outcome_fields, single_end_outcome_answer, same_end_answer, verdict_weakened_by_unknown, verdict_with_outcome, verdict_with_single_end_outcome};
 
 use crate::ends_text::is_fully_explored;
-use crate::expectation_json::outcome_word;
+use crate::expectation_json::outcome_keyword;
 use crate::expected::write_expectations;
 use crate::outcome::{Breach, ExpectationOutcome, outcomes_verdict};
 use crate::outcome_text::outcome_text;
@@ -22,8 +22,8 @@ use ga_text::{WriteResult, Writer};
 use std::io::Write;
 
 /// What a search shows of the expectation that the program has one end.
-pub(crate) fn one_end_outcome(found: &FoundEnds) -> ExpectationOutcome
-    ensures { result ≡ one_end_outcome found.now }
+pub(crate) fn single_end_expectation_outcome(found: &FoundEnds) -> ExpectationOutcome
+    ensures { result ≡ single_end_expectation_outcome found.now }
 {
     let ends = found.count_ends();
     if 1 < ends {
@@ -44,7 +44,7 @@ pub(crate) fn write_same<W: Write>(
     found: &FoundEnds,
     writer: &mut Writer<'_, W>,
 ) -> WriteResult
-    ensures { WritesExactly result (same_answer request.entry found.now) W.contents writer.old writer.new }
+    ensures { WritesExactly result (same_end_answer request.entry found.now) W.contents writer.old writer.new }
 {
     if request.same {
         write_one_end(request.format, found, writer)
@@ -62,7 +62,7 @@ fn write_one_end<W: Write>(
     found: &FoundEnds,
     writer: &mut Writer<'_, W>,
 ) -> WriteResult
-    ensures { WritesExactly result (one_end_answer format.entry found.now) W.contents writer.old writer.new }
+    ensures { WritesExactly result (single_end_outcome_answer format.entry found.now) W.contents writer.old writer.new }
 {
     match format {
         ReportFormat::Text => write_one_end_line(found, writer),
@@ -75,9 +75,13 @@ fn write_one_end<W: Write>(
 /// # Errors
 /// A write failed.
 fn write_one_end_line<W: Write>(found: &FoundEnds, writer: &mut Writer<'_, W>) -> WriteResult
-    ensures { WritesExactly result (one_end_line found.now) W.contents writer.old writer.new }
+    ensures { WritesExactly result (single_end_outcome_line found.now) W.contents writer.old writer.new }
 {
-    let known = outcome_text(is_fully_explored(found), 0, one_end_outcome(found));
+    let known = outcome_text(
+        is_fully_explored(found),
+        0,
+        single_end_expectation_outcome(found),
+    );
     writer.write_text(b"one end")?;
     writer.write_blocks(known.as_slice())
 }
@@ -91,17 +95,17 @@ fn write_one_end_object<W: Write>(
     found: &FoundEnds,
     writer: &mut Writer<'_, W>,
 ) -> WriteResult
-    ensures { WritesExactly result (json_line (json_object (one_end_fields file.now found.now))) W.contents writer.old writer.new }
+    ensures { WritesExactly result (json_line (json_object (single_end_outcome_fields file.now found.now))) W.contents writer.old writer.new }
 {
-    let fields = one_end_fields(file, found);
+    let fields = single_end_outcome_fields(file, found);
     write_object(fields.as_slice(), writer)
 }
 
 /// The fields of that object.
-fn one_end_fields<'a>(file: &'a [u8], found: &FoundEnds) -> RowFields<'a>
-    ensures { map named_field_value result.items ≡ one_end_fields file.now found.now }
+fn single_end_outcome_fields<'a>(file: &'a [u8], found: &FoundEnds) -> RowFields<'a>
+    ensures { map named_field_value result.items ≡ single_end_outcome_fields file.now found.now }
 {
-    let word = outcome_word(one_end_outcome(found));
+    let word = outcome_keyword(single_end_expectation_outcome(found));
     row_fields(&[
         Field::text(b"answer", b"same"),
         text_field(b"file", file),
@@ -136,15 +140,19 @@ pub(crate) fn expectations_verdict(
 ) -> Verdict
     ensures { result ≡ expectations_verdict request.entry found.now outcomes.now }
 {
-    verdict_with_same(request.same, found, outcomes_verdict(outcomes))
+    verdict_with_single_end_outcome(request.same, found, outcomes_verdict(outcomes))
 }
 
 /// A verdict, and that about one end, if `--same` asks for it.
-pub(crate) fn verdict_with_same(same: bool, found: &FoundEnds, verdict: Verdict) -> Verdict
-    ensures { result ≡ verdict_with_same same found.now verdict }
+pub(crate) fn verdict_with_single_end_outcome(
+    same: bool,
+    found: &FoundEnds,
+    verdict: Verdict,
+) -> Verdict
+    ensures { result ≡ verdict_with_single_end_outcome same found.now verdict }
 {
     if same {
-        verdict_with_outcome(one_end_outcome(found), verdict)
+        verdict_with_outcome(single_end_expectation_outcome(found), verdict)
     } else {
         verdict
     }
@@ -157,13 +165,13 @@ fn verdict_with_outcome(outcome: ExpectationOutcome, verdict: Verdict) -> Verdic
     match outcome {
         ExpectationOutcome::Holds => verdict,
         ExpectationOutcome::Broken(_) => Verdict::Unclean,
-        ExpectationOutcome::Unknown => verdict_if_unknown(verdict),
+        ExpectationOutcome::Unknown => verdict_weakened_by_unknown(verdict),
     }
 }
 
 /// A verdict where something isn't known either.
-fn verdict_if_unknown(verdict: Verdict) -> Verdict
-    ensures { result ≡ verdict_if_unknown verdict }
+fn verdict_weakened_by_unknown(verdict: Verdict) -> Verdict
+    ensures { result ≡ verdict_weakened_by_unknown verdict }
 {
     match verdict {
         Verdict::Clean => Verdict::Unknown,

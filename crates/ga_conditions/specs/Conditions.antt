@@ -3,19 +3,19 @@
 use Rattle.std.specs.Prelude.{ℕ, nat_eq, if◌then◌else◌, codes, Option, Some, option_map, option_and_then, zero, suc, ◌==◌, ◌&&◌, List, [], ◌∷◌, ◌++◌, replicate, None}
 use Rattle.std.specs.Cmp.Lexicographic.{pointwise}
 use Rattle.ga_text.specs.Lines.{Line}
-use Rattle.ga_text.specs.Parsing.{parse_number, with_prepended_byte, split_at_space, parse_node}
+use Rattle.ga_text.specs.Parsing.{parse_number, parts_with_prepended_byte, split_at_space, parse_node}
 use Rattle.ga_text.specs.Digits.{hex_byte_value}
 use Rattle.ga_ports.specs.Steps.{◌>>=◌}
 use Rattle.ga_grid.specs.declared.node_id.NodeId.{NodeId}
-use Rattle.ga_scheduler.specs.Values.{can_be_passed}
+use Rattle.ga_scheduler.specs.Values.{is_test_number_in_range}
 use Rattle.ga_scheduler.specs.declared.value_test.NodeValue.TheVariants.{P, Cell}
 use Rattle.ga_scheduler.specs.declared.value_test.Comparison.TheVariants.{Equal}
 use Rattle.ga_scheduler.specs.declared.value_test.ValueTest.{ValueTest}
 use Rattle.ga_scheduler.specs.declared.condition.Condition.{Condition}
-use Rattle.ga_scheduler.specs.declared.condition.Condition.TheVariants.{Never, Passes, PassesNumber, Steps, Stops, StopsAt, WaitsAt, HoldsValue, Reaches, Writes as WritesTo}
+use Rattle.ga_scheduler.specs.declared.condition.Condition.TheVariants.{Never, PassesWord, PassesNthWord, MakesNumberedStep, AnyNodeStops, GivenNodeStops, GivenNodeWaits, HoldsPlaceValue, ReachesAddress, WritesRamCell as WritesTo}
 use Rattle.ga_debug_info.specs.declared.notes.DebugInfo.{DebugInfo}
 use Rattle.ga_debug_info.specs.declared.notes.LabelAddress.{LabelAddress}
-use Rattle.ga_debug_info.specs.Notes.{line_address, label_address_of}
+use Rattle.ga_debug_info.specs.Notes.{line_address, label_address_of_node}
 use Rattle.ga_conditions.specs.Numbers.{word_if_in_range, parsed_hex_word, parsed_operand, first_known_operand}
 use Rattle.ga_conditions.specs.Tests.{parsed_comparison, parsed_value_test}
 
@@ -37,15 +37,15 @@ parse_equal_word names node text = do
   if pointwise nat_eq parts.0 (codes "=") then parse_operand_word names node parts.1 else None
 
 -- the test, if its number is a word or counts steps
-abbrev pub valid_value_test : ValueTest → Option ValueTest
-valid_value_test test = if can_be_passed test then Some test else None
+abbrev pub value_test_if_in_range : ValueTest → Option ValueTest
+value_test_if_in_range test = if is_test_number_in_range test then Some test else None
 
 -- `VALUE OP NUMBER` of a node
 unfoldable pub parse_test_condition : Option DebugInfo → NodeId → Line → Option Condition
 parse_test_condition notes node text = do
   test ← parsed_value_test (labels_of_debug_info notes) node text
-  possible ← valid_value_test test
-  Some (HoldsValue node possible)
+  possible ← value_test_if_in_range test
+  Some (HoldsPlaceValue node possible)
 
 -- `NNN K`
 unfoldable pub parse_step_condition : Line → Option Condition
@@ -53,18 +53,18 @@ parse_step_condition text = do
   parts ← split_at_space text
   node ← parse_node parts.0
   step ← parse_number parts.1
-  Some (Steps node step)
+  Some (MakesNumberedStep node step)
 
 -- `OP NUMBER` of a word that passes
 unfoldable pub parse_word_condition : NodeId → NodeId → Line → Line → Option Condition
 parse_word_condition writer reader sign text = do
   comparison ← parsed_comparison sign
   word ← parse_operand_word [] reader text
-  Some (Passes writer reader comparison word)
+  Some (PassesWord writer reader comparison word)
 
 -- `OP NUMBER` or `J` after `NNN MMM`
 abbrev pub link_condition_from_split : NodeId → NodeId → Option (Line × Line) → Line → Option Condition
-link_condition_from_split writer reader None text = option_map (PassesNumber writer reader) (parse_number text)
+link_condition_from_split writer reader None text = option_map (PassesNthWord writer reader) (parse_number text)
 link_condition_from_split writer reader (Some parts) text = parse_word_condition writer reader parts.0 parts.1
 
 abbrev pub parse_link_condition : NodeId → NodeId → Line → Option Condition
@@ -81,11 +81,11 @@ parse_pass_condition text = do
 
 -- the word at an address of the node's memory is this one
 abbrev pub cell_equals_condition : NodeId → ℕ → ℕ → Condition
-cell_equals_condition node address word = HoldsValue node (record { value = Cell address; comparison = Equal; number = word })
+cell_equals_condition node address word = HoldsPlaceValue node (record { value = Cell address; comparison = Equal; number = word })
 
 -- P of the node is this address
 abbrev pub p_equals_condition : NodeId → ℕ → Condition
-p_equals_condition node address = HoldsValue node (record { value = P; comparison = Equal; number = address })
+p_equals_condition node address = HoldsPlaceValue node (record { value = P; comparison = Equal; number = address })
 
 -- `NNN HH = NUMBER`
 unfoldable pub parse_memory_condition : Option DebugInfo → Line → Option Condition
@@ -111,7 +111,7 @@ parse_line_address notes node name text =
     else None
 
 abbrev pub label_or_line_from_split : Option DebugInfo → NodeId → Option (Line × Line) → Line → Option ℕ
-label_or_line_from_split notes node None text = label_address_of (labels_of_debug_info notes) node text
+label_or_line_from_split notes node None text = label_address_of_node (labels_of_debug_info notes) node text
 label_or_line_from_split notes node (Some parts) text = parse_line_address notes node parts.0 parts.1
 
 -- a label, or `line N`
@@ -131,34 +131,34 @@ parse_node_and_address notes text = do
   Some (node, address)
 
 -- `HH` or `HH = NUMBER` after `NNN`
-abbrev pub node_change_from_split : List LabelAddress → NodeId → Option (Line × Line) → Line → Option Condition
-node_change_from_split names node None text = do
+abbrev pub cell_write_condition_from_split : List LabelAddress → NodeId → Option (Line × Line) → Line → Option Condition
+cell_write_condition_from_split names node None text = do
   address ← hex_byte_value text
   Some (WritesTo node address None)
-node_change_from_split names node (Some parts) text = do
+cell_write_condition_from_split names node (Some parts) text = do
   address ← hex_byte_value parts.0
   word ← parse_equal_word names node parts.1
   Some (WritesTo node address (Some word))
 
-abbrev pub parse_node_change : List LabelAddress → NodeId → Line → Option Condition
-parse_node_change names node text = node_change_from_split names node (split_at_space text) text
+abbrev pub parse_cell_write_condition : List LabelAddress → NodeId → Line → Option Condition
+parse_cell_write_condition names node text = cell_write_condition_from_split names node (split_at_space text) text
 
 -- `NNN HH` or `NNN HH = NUMBER`
 unfoldable pub parse_change_condition : Option DebugInfo → Line → Option Condition
 parse_change_condition notes text = do
   parts ← split_at_space text
   node ← parse_node parts.0
-  parse_node_change (labels_of_debug_info notes) node parts.1
+  parse_cell_write_condition (labels_of_debug_info notes) node parts.1
 
 -- a condition of one word
-unfoldable pub one_word_condition : Line → Option Condition
-one_word_condition name = if pointwise nat_eq name (codes "stop") then Some Stops else None
+unfoldable pub parse_keyword_condition : Line → Option Condition
+parse_keyword_condition name = if pointwise nat_eq name (codes "stop") then Some AnyNodeStops else None
 
 -- a condition of a word and what follows it
 unfoldable pub condition_by_keyword : Option DebugInfo → Line → Line → Option Condition
 condition_by_keyword notes name text =
-    if pointwise nat_eq name (codes "stop") then option_map StopsAt (parse_node text)
-    else if pointwise nat_eq name (codes "wait") then option_map WaitsAt (parse_node text)
+    if pointwise nat_eq name (codes "stop") then option_map GivenNodeStops (parse_node text)
+    else if pointwise nat_eq name (codes "wait") then option_map GivenNodeWaits (parse_node text)
     else if pointwise nat_eq name (codes "step") then parse_step_condition text
     else if pointwise nat_eq name (codes "pass") then parse_pass_condition text
     else if pointwise nat_eq name (codes "mem") then parse_memory_condition notes text
@@ -167,18 +167,18 @@ condition_by_keyword notes name text =
       Some (p_equals_condition it.0 it.1))
     else if pointwise nat_eq name (codes "reach") then (do
       it ← parse_node_and_address notes text
-      Some (Reaches it.0 it.1))
+      Some (ReachesAddress it.0 it.1))
     else if pointwise nat_eq name (codes "change") then parse_change_condition notes text
     else (do
       node ← parse_node name
       parse_test_condition notes node text)
 
-abbrev pub condition_from_split : Option DebugInfo → Option (Line × Line) → Line → Option Condition
-condition_from_split notes None text = one_word_condition text
-condition_from_split notes (Some parts) text = condition_by_keyword notes parts.0 parts.1
+abbrev pub parse_split_condition : Option DebugInfo → Option (Line × Line) → Line → Option Condition
+parse_split_condition notes None text = parse_keyword_condition text
+parse_split_condition notes (Some parts) text = condition_by_keyword notes parts.0 parts.1
 
 abbrev pub parsed_run_condition : Option DebugInfo → Line → Option Condition
-parsed_run_condition notes text = condition_from_split notes (split_at_space text) text
+parsed_run_condition notes text = parse_split_condition notes (split_at_space text) text
 
 -- ---- conditions with ` or ` between them
 
@@ -194,7 +194,7 @@ first_or_keyword_split (Some rest) later = Some ([], rest)
 -- what comes before the first ` or ` of a text, and what follows it
 abbrev pub split_at_or_keyword : Line → Option (Line × Line)
 split_at_or_keyword [] = None
-split_at_or_keyword (b ∷ text) = first_or_keyword_split (text_after_or_keyword (b ∷ text)) (with_prepended_byte b (split_at_or_keyword text))
+split_at_or_keyword (b ∷ text) = first_or_keyword_split (text_after_or_keyword (b ∷ text)) (parts_with_prepended_byte b (split_at_or_keyword text))
 
 -- the first condition, and those after it if there are some
 abbrev pub first_condition_and_rest : Option (Line × Line) → Line → Line × Option Line
@@ -209,12 +209,12 @@ abbrev pub condition_limit : ℕ
 condition_limit = 8
 
 -- some conditions in front of others
-abbrev pub prepended_conditions : List Condition → Option (List Condition) → Option (List Condition)
-prepended_conditions front others = option_map (λ more. front ++ more) others
+abbrev pub prepend_conditions : List Condition → Option (List Condition) → Option (List Condition)
+prepend_conditions front others = option_map (λ more. front ++ more) others
 
-abbrev pub prepended_condition : Option Condition → Option (List Condition) → Option (List Condition)
-prepended_condition None others = None
-prepended_condition (Some one) others = prepended_conditions (one ∷ []) others
+abbrev pub prepend_condition : Option Condition → Option (List Condition) → Option (List Condition)
+prepend_condition None others = None
+prepend_condition (Some one) others = prepend_conditions (one ∷ []) others
 
 -- the conditions after the first, or otherwise as many that never hold as there are places left
 abbrev pub remaining_conditions : ℕ → (Line → Option (List Condition)) → Option Line → Option (List Condition)
@@ -222,7 +222,7 @@ remaining_conditions more others None = Some (replicate more Never)
 remaining_conditions more others (Some text) = others text
 
 abbrev pub conditions_from_split : Option DebugInfo → ℕ → (Line → Option (List Condition)) → Line × Option Line → Option (List Condition)
-conditions_from_split notes more others parts = prepended_condition (parsed_run_condition notes parts.0) (remaining_conditions more others parts.1)
+conditions_from_split notes more others parts = prepend_condition (parsed_run_condition notes parts.0) (remaining_conditions more others parts.1)
 
 -- conditions with ` or ` between them, for a number of places
 unfoldable pub parsed_conditions_within : Option DebugInfo → ℕ → Line → Option (List Condition)
@@ -233,11 +233,11 @@ abbrev pub parsed_run_conditions : Option DebugInfo → Line → Option (List Co
 parsed_run_conditions notes text = parsed_conditions_within notes condition_limit text
 
 -- the conditions where none is given: each holds never
-abbrev pub no_conditions : List Condition
-no_conditions = replicate condition_limit Never
+abbrev pub never_holding_conditions : List Condition
+never_holding_conditions = replicate condition_limit Never
 
 -- `until COND or COND ..`
-unfoldable pub parsed_until : Option DebugInfo → Line → Option (List Condition)
-parsed_until notes text = do
+unfoldable pub parsed_until_conditions : Option DebugInfo → Line → Option (List Condition)
+parsed_until_conditions notes text = do
   parts ← split_at_space text
   if pointwise nat_eq parts.0 (codes "until") then parsed_run_conditions notes parts.1 else None

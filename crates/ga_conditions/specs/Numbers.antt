@@ -8,7 +8,7 @@ use Rattle.ga_text.specs.Digits.{hex_byte_value}
 use Rattle.ga_grid.specs.declared.node_id.NodeId.{NodeId}
 use Rattle.ga_parser.specs.Vocabulary.{named_port_address}
 use Rattle.ga_debug_info.specs.declared.notes.LabelAddress.{LabelAddress}
-use Rattle.ga_debug_info.specs.Notes.{label_address_of}
+use Rattle.ga_debug_info.specs.Notes.{label_address_of_node}
 
 -- a number that fits in a word
 abbrev pub word_if_in_range : ℕ → Option ℕ
@@ -52,11 +52,11 @@ parse_hex_number (byte ∷ text) = do
 abbrev pub parse_unsigned_number : Text → Option ℕ
 parse_unsigned_number text = if bytes_eq (take 2 text) (codes "0x") then parse_hex_number (drop 2 text) else parse_number text
 
-abbrev pub negative_word : ℕ → Option ℕ
-negative_word size = if nat_le size 131072 then Some ((262144 - size) % 262144) else None
+abbrev pub word_of_negated_number : ℕ → Option ℕ
+word_of_negated_number size = if nat_le size 131072 then Some ((262144 - size) % 262144) else None
 
-abbrev pub parse_plain_number : Text → Option ℕ
-parse_plain_number text = if bytes_eq (take 1 text) (codes "-") then option_and_then negative_word (parse_unsigned_number (drop 1 text)) else parse_unsigned_number text
+abbrev pub parse_signed_number : Text → Option ℕ
+parse_signed_number text = if bytes_eq (take 1 text) (codes "-") then option_and_then word_of_negated_number (parse_unsigned_number (drop 1 text)) else parse_unsigned_number text
 
 -- ---- the operand of a comparison: a number, a word as answers have it, the address of a port, or else that of a label of the node
 
@@ -64,8 +64,8 @@ abbrev pub first_known_operand : Option ℕ → Option ℕ → Option ℕ
 first_known_operand None other = other
 first_known_operand (Some number) other = Some number
 
-abbrev pub parse_plain_operand : Text → Option ℕ
-parse_plain_operand text = first_known_operand (parse_plain_number text) (first_known_operand (parsed_hex_word text) (named_port_address text))
+abbrev pub parse_operand_without_label : Text → Option ℕ
+parse_operand_without_label text = first_known_operand (parse_signed_number text) (first_known_operand (parsed_hex_word text) (named_port_address text))
 
 abbrev pub parsed_operand : List LabelAddress → NodeId → Text → Option ℕ
-parsed_operand names node text = first_known_operand (parse_plain_operand text) (label_address_of names node text)
+parsed_operand names node text = first_known_operand (parse_operand_without_label text) (label_address_of_node names node text)

@@ -8,7 +8,7 @@ use Rattle.ga_text.specs.Digits.{hex_byte_value}
 use Rattle.ga_grid.specs.declared.node_id.NodeId.{NodeId}
 use Rattle.ga_debug_info.specs.declared.notes.LabelAddress.{LabelAddress}
 use Rattle.ga_scheduler.specs.declared.value_test.NodeValue.{NodeValue}
-use Rattle.ga_scheduler.specs.declared.value_test.NodeValue.TheVariants.{Step, P, A, B, I, Slot, Carry, Io, DataWord, ReturnWord, Cell}
+use Rattle.ga_scheduler.specs.declared.value_test.NodeValue.TheVariants.{StepCountValue, P, A, B, I, Slot, Carry, Io, DataWord, ReturnWord, Cell}
 use Rattle.ga_scheduler.specs.declared.value_test.Comparison.{Comparison}
 use Rattle.ga_scheduler.specs.declared.value_test.Comparison.TheVariants.{Equal, Unequal, Less, AtMost, More, AtLeast}
 use Rattle.ga_scheduler.specs.declared.value_test.ValueTest.{ValueTest}
@@ -42,7 +42,7 @@ abbrev pub node_value_of_keyword : Text → Option NodeValue
 node_value_of_keyword text =
     if bytes_eq text (codes "slot") then Some Slot
     else if bytes_eq text (codes "carry") then Some Carry
-    else if bytes_eq text (codes "step") then Some Step
+    else if bytes_eq text (codes "step") then Some StepCountValue
     else node_value_in_brackets text
 
 unfoldable pub parsed_node_value : Text → Option NodeValue

@@ -1,7 +1,7 @@
 //! Some conditions with `or` between them, as text.
 
 ghost use Rattle.std.specs.Prelude.{◌≡◌, ◌≤◌, length, drop, if◌then◌else◌, IsTrue, Some, None, option_map};
-ghost use Rattle.ga_conditions.specs.Conditions.{text_after_or_keyword, split_at_or_keyword, split_first_condition, parsed_run_conditions, no_conditions, parsed_until};
+ghost use Rattle.ga_conditions.specs.Conditions.{text_after_or_keyword, split_at_or_keyword, split_first_condition, parsed_run_conditions, never_holding_conditions, parsed_until_conditions};
 
 use crate::condition::parse_run_condition;
 use ga_debug_info::DebugInfo;
@@ -9,12 +9,12 @@ use ga_scheduler::{Condition, MAX_CONDITIONS};
 use ga_text::split_at_space;
 
 /// As many conditions as a run watches at most: the given ones, and then ones that never hold.
-pub type Conditions = [Condition; MAX_CONDITIONS];
+pub type RunConditions = [Condition; MAX_CONDITIONS];
 
 /// The conditions where none is given: each holds never.
-pub fn no_conditions() -> Conditions
+pub fn never_holding_conditions() -> RunConditions
     ensures size { length result ≡ 8 }
-    ensures value { result ≡ no_conditions }
+    ensures value { result ≡ never_holding_conditions }
 {
     [Condition::Never; MAX_CONDITIONS]
 }
@@ -56,10 +56,10 @@ pub fn split_first_condition(text: &[u8]) -> (&[u8], Option<&[u8]>)
 }
 
 /// The conditions of a text, at most as many as a run watches; or none.
-pub fn parse_conditions(notes: &Option<DebugInfo>, text: &[u8]) -> Option<Conditions>
+pub fn parse_conditions(notes: &Option<DebugInfo>, text: &[u8]) -> Option<RunConditions>
     ensures { result ≡ parsed_run_conditions notes.now text.now }
 {
-    let mut conditions = no_conditions();
+    let mut conditions = never_holding_conditions();
     let mut left = text;
     for place in 0..MAX_CONDITIONS {
         let (first, others) = split_first_condition(left);
@@ -73,9 +73,9 @@ pub fn parse_conditions(notes: &Option<DebugInfo>, text: &[u8]) -> Option<Condit
 }
 
 /// `until` and the conditions that follow it.
-#[tactic(auto, unfolding(crate::specs::Conditions::parsed_until))]
-pub fn parse_until(notes: &Option<DebugInfo>, text: &[u8]) -> Option<Conditions>
-    ensures { result ≡ parsed_until notes.now text.now }
+#[tactic(auto, unfolding(crate::specs::Conditions::parsed_until_conditions))]
+pub fn parse_until_conditions(notes: &Option<DebugInfo>, text: &[u8]) -> Option<RunConditions>
+    ensures { result ≡ parsed_until_conditions notes.now text.now }
 {
     let (name, rest) = split_at_space(text)?;
     match name {

@@ -1,7 +1,7 @@
 //! One condition of a run or of a search back, as text.
 
 ghost use Rattle.std.specs.Prelude.{◌≡◌};
-ghost use Rattle.ga_conditions.specs.Conditions.{parsed_run_condition, one_word_condition, condition_by_keyword, parse_test_condition, valid_value_test, parse_step_condition, parse_pass_condition, parse_link_condition, parse_word_condition, labels_of_debug_info, parse_memory_condition, parse_node_and_address, p_equals_condition, parse_change_condition, parse_node_change, parse_address_or_label, parse_label_or_line, parse_line_address, source_line_address, parse_equal_word, parse_operand_word};
+ghost use Rattle.ga_conditions.specs.Conditions.{parsed_run_condition, parse_keyword_condition, condition_by_keyword, parse_test_condition, value_test_if_in_range, parse_step_condition, parse_pass_condition, parse_link_condition, parse_word_condition, labels_of_debug_info, parse_memory_condition, parse_node_and_address, p_equals_condition, parse_change_condition, parse_cell_write_condition, parse_address_or_label, parse_label_or_line, parse_line_address, source_line_address, parse_equal_word, parse_operand_word};
 
 use crate::numbers::{parse_hex_word, parse_operand};
 use crate::tests_of_values::{parse_comparison, parse_value_test};
@@ -17,16 +17,16 @@ pub fn parse_run_condition(notes: &Option<DebugInfo>, text: &[u8]) -> Option<Con
 {
     match split_at_space(text) {
         Some((name, rest)) => condition_by_keyword(notes, name, rest),
-        None => one_word_condition(text),
+        None => parse_keyword_condition(text),
     }
 }
 
-#[tactic(auto, unfolding(crate::specs::Conditions::one_word_condition))]
-fn one_word_condition(name: &[u8]) -> Option<Condition>
-    ensures { result ≡ one_word_condition name.now }
+#[tactic(auto, unfolding(crate::specs::Conditions::parse_keyword_condition))]
+fn parse_keyword_condition(name: &[u8]) -> Option<Condition>
+    ensures { result ≡ parse_keyword_condition name.now }
 {
     match name {
-        b"stop" => Some(Condition::Stops),
+        b"stop" => Some(Condition::AnyNodeStops),
         _ => None,
     }
 }
@@ -36,9 +36,9 @@ fn condition_by_keyword(notes: &Option<DebugInfo>, name: &[u8], rest: &[u8]) -> 
     ensures { result ≡ condition_by_keyword notes.now name.now rest.now }
 {
     if name == b"stop".as_slice() {
-        Some(Condition::StopsAt(parse_node(rest)?))
+        Some(Condition::GivenNodeStops(parse_node(rest)?))
     } else if name == b"wait".as_slice() {
-        Some(Condition::WaitsAt(parse_node(rest)?))
+        Some(Condition::GivenNodeWaits(parse_node(rest)?))
     } else if name == b"step".as_slice() {
         steps_of(rest)
     } else if name == b"pass".as_slice() {
@@ -50,7 +50,7 @@ fn condition_by_keyword(notes: &Option<DebugInfo>, name: &[u8], rest: &[u8]) -> 
         Some(p_equals_condition(node, address))
     } else if name == b"reach".as_slice() {
         let (node, address) = parse_node_and_address(notes, rest)?;
-        Some(Condition::Reaches { node, address })
+        Some(Condition::ReachesAddress { node, address })
     } else if name == b"change".as_slice() {
         changes_of(notes, rest)
     } else {
@@ -70,9 +70,9 @@ fn names(notes: &Option<DebugInfo>) -> &[LabelAddress]
 
 /// The test, if its number is a word or counts steps.
 fn possible(test: ValueTest) -> Option<ValueTest>
-    ensures { result ≡ valid_value_test test }
+    ensures { result ≡ value_test_if_in_range test }
 {
-    if test.can_be_passed() {
+    if test.is_test_number_in_range() {
         Some(test)
     } else {
         None
@@ -85,14 +85,14 @@ fn tested(notes: &Option<DebugInfo>, node: NodeId, text: &[u8]) -> Option<Condit
     ensures { result ≡ parse_test_condition notes.now node text.now }
 {
     let test = possible(parse_value_test(names(notes), node, text)?)?;
-    Some(Condition::HoldsValue { node, test })
+    Some(Condition::HoldsPlaceValue { node, test })
 }
 
 /// P of the node is this address.
 fn p_equals_condition(node: NodeId, address: u32) -> Condition
     ensures { result ≡ p_equals_condition node address }
 {
-    Condition::HoldsValue {
+    Condition::HoldsPlaceValue {
         node,
         test: ValueTest {
             value: NodeValue::P,
@@ -108,7 +108,7 @@ fn steps_of(text: &[u8]) -> Option<Condition>
     ensures { result ≡ parse_step_condition text.now }
 {
     let (node, step) = split_at_space(text)?;
-    Some(Condition::Steps {
+    Some(Condition::MakesNumberedStep {
         node: parse_node(node)?,
         step: parse_number(step)?,
     })
@@ -130,7 +130,7 @@ fn passed_of(writer: NodeId, reader: NodeId, text: &[u8]) -> Option<Condition>
 {
     match split_at_space(text) {
         Some((sign, word)) => compared(writer, reader, sign, word),
-        None => Some(Condition::PassesNumber {
+        None => Some(Condition::PassesNthWord {
             writer,
             reader,
             number: parse_number(text)?,
@@ -143,7 +143,7 @@ fn passed_of(writer: NodeId, reader: NodeId, text: &[u8]) -> Option<Condition>
 fn compared(writer: NodeId, reader: NodeId, sign: &[u8], word: &[u8]) -> Option<Condition>
     ensures { result ≡ parse_word_condition writer reader sign.now word.now }
 {
-    Some(Condition::Passes {
+    Some(Condition::PassesWord {
         writer,
         reader,
         comparison: parse_comparison(sign)?,
@@ -161,7 +161,7 @@ fn holds_of(notes: &Option<DebugInfo>, text: &[u8]) -> Option<Condition>
     let node = parse_node(node)?;
     let address = parse_hex_byte(address)?;
     let word = word_equal(names(notes), node, rest)?;
-    Some(Condition::HoldsValue {
+    Some(Condition::HoldsPlaceValue {
         node,
         test: ValueTest {
             value: NodeValue::Cell(address),
@@ -178,7 +178,7 @@ fn parse_node_and_address(notes: &Option<DebugInfo>, text: &[u8]) -> Option<(Nod
 {
     let (node, address) = split_at_space(text)?;
     let node = parse_node(node)?;
-    let address = label_address_of(notes, node, address)?;
+    let address = label_address_of_node(notes, node, address)?;
     Some((node, address))
 }
 
@@ -193,13 +193,13 @@ fn changes_of(notes: &Option<DebugInfo>, text: &[u8]) -> Option<Condition>
 
 /// `HH` or `HH = NUMBER`
 fn written_of(names: &[LabelAddress], node: NodeId, text: &[u8]) -> Option<Condition>
-    ensures { result ≡ parse_node_change names.now node text.now }
+    ensures { result ≡ parse_cell_write_condition names.now node text.now }
 {
     match split_at_space(text) {
         Some((address, rest)) => {
             let address = parse_hex_byte(address)?;
             let word = word_equal(names, node, rest)?;
-            Some(Condition::Writes {
+            Some(Condition::WritesRamCell {
                 node,
                 address,
                 word: Some(word),
@@ -207,7 +207,7 @@ fn written_of(names: &[LabelAddress], node: NodeId, text: &[u8]) -> Option<Condi
         }
         None => {
             let address = parse_hex_byte(text)?;
-            Some(Condition::Writes {
+            Some(Condition::WritesRamCell {
                 node,
                 address,
                 word: None,
@@ -217,7 +217,7 @@ fn written_of(names: &[LabelAddress], node: NodeId, text: &[u8]) -> Option<Condi
 }
 
 /// An address, or else a label of the node or `line N`, which only source gives.
-fn label_address_of(notes: &Option<DebugInfo>, node: NodeId, text: &[u8]) -> Option<u32>
+fn label_address_of_node(notes: &Option<DebugInfo>, node: NodeId, text: &[u8]) -> Option<u32>
     ensures { result ≡ parse_address_or_label notes.now node text.now }
 {
     match parse_hex_word(text) {

@@ -7,7 +7,8 @@ mod numbers;
 mod tests_of_values;
 
 pub use alternatives::{
-    Conditions, no_conditions, parse_conditions, parse_until, split_first_condition,
+    RunConditions, never_holding_conditions, parse_conditions, parse_until_conditions,
+    split_first_condition,
 };
 pub use condition::parse_run_condition;
 pub use numbers::{parse_hex_word, parse_operand};

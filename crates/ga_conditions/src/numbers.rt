@@ -1,7 +1,7 @@
 //! Numbers of conditions.
 
 ghost use Rattle.std.specs.Prelude.{◌≡◌};
-ghost use Rattle.ga_conditions.specs.Numbers.{parsed_hex_word, parse_hex_digit, append_hex_digit, parse_hex_number, parse_unsigned_number, negative_word, parse_plain_number, parse_plain_operand, parsed_operand};
+ghost use Rattle.ga_conditions.specs.Numbers.{parsed_hex_word, parse_hex_digit, append_hex_digit, parse_hex_number, parse_unsigned_number, word_of_negated_number, parse_signed_number, parse_operand_without_label, parsed_operand};
 
 use ga_debug_info::{LabelAddress, label_address};
 use ga_grid::NodeId;
@@ -70,8 +70,8 @@ fn size(text: &[u8]) -> Option<u32>
 }
 
 // A number below 0, modulo 2^18.
-fn negative_word(size: u32) -> Option<u32>
-    ensures { result ≡ negative_word size }
+fn word_of_negated_number(size: u32) -> Option<u32>
+    ensures { result ≡ word_of_negated_number size }
 {
     if size <= 0x2_0000 {
         Some((0x4_0000 - size) % 0x4_0000)
@@ -82,17 +82,17 @@ fn negative_word(size: u32) -> Option<u32>
 
 // A number, after `-` or without.
 fn plain_number(text: &[u8]) -> Option<u32>
-    ensures { result ≡ parse_plain_number text.now }
+    ensures { result ≡ parse_signed_number text.now }
 {
     match text.strip_prefix(b"-") {
-        Some(digits) => negative_word(size(digits)?),
+        Some(digits) => word_of_negated_number(size(digits)?),
         None => size(text),
     }
 }
 
 // A number, or a word as answers have it, or the address of a port.
 fn plain_operand(text: &[u8]) -> Option<u32>
-    ensures { result ≡ parse_plain_operand text.now }
+    ensures { result ≡ parse_operand_without_label text.now }
 {
     if let Some(number) = plain_number(text) {
         return Some(number);

@@ -61,7 +61,7 @@ fn node_value_of_keyword(text: &[u8]) -> Option<NodeValue>
     } else if text == b"carry".as_slice() {
         Some(NodeValue::Carry)
     } else if text == b"step".as_slice() {
-        Some(NodeValue::Step)
+        Some(NodeValue::StepCountValue)
     } else {
         node_value_in_brackets(text)
     }
@@ -101,7 +101,7 @@ pub fn parse_comparison(text: &[u8]) -> Option<Comparison>
 }
 
 /// The test of a value of the node, `VALUE OP NUMBER` with a space between; none if it has another form. The number may be a label of the
-/// node, and need not be possible ([`ValueTest::can_be_passed`]).
+/// node, and need not be possible ([`ValueTest::is_test_number_in_range`]).
 #[tactic(auto, unfolding(crate::specs::Tests::parsed_value_test))]
 pub fn parse_value_test(names: &[LabelAddress], node: NodeId, text: &[u8]) -> Option<ValueTest>
     ensures { result ≡ parsed_value_test names.now node text.now }

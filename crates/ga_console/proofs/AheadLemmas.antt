@@ -4,15 +4,15 @@ use Rattle.ga_grid.specs.declared.node_id.NodeId.{NodeId}
 use Rattle.ga_text.specs.Digits.{name_of_node, hex_byte_value}
 use Rattle.ga_text.proofs.Taking.{byte_address, not_feed}
 use Rattle.ga_console.specs.Commands.{SpellsCommand}
-use Rattle.ga_console.specs.declared.command.Command.TheVariants.{Node, Memory, Step, Rewind, Count, Quit}
+use Rattle.ga_console.specs.declared.command.DebuggerCommand.TheVariants.{Node, Memory, Step, Rewind, Count, Quit}
 use Rattle.std.specs.Prelude.{codes}
 use Rattle.std.proofs.lemmas.List.{take_all}
 use Rattle.std.proofs.lemmas.List.Elements.{All-from_recursion, All-append}
-use Rattle.ga_grid.specs.Grid.{yxx_of}
+use Rattle.ga_grid.specs.Grid.{decimal_name_of_node}
 use Rattle.ga_text.specs.Lines.{HasNoLineFeed, is_line_end_byte}
 use Rattle.ga_console.specs.Session.{quit_line}
-use Rattle.ga_console.specs.inner.Run.{IsAhead, IsLineAhead, IsNumberAhead}
-use Rattle.ga_console.specs.declared.command.Command.{Command}
+use Rattle.ga_console.specs.inner.Run.{IsCommandAhead, IsLineAhead, IsNumberAhead}
+use Rattle.ga_console.specs.declared.command.DebuggerCommand.{DebuggerCommand}
 use Rattle.std.proofs.Math.Seq.{drop-append-add}
 
 -- ---- A line that shows a node or a word of its memory
@@ -106,7 +106,7 @@ step_feeds node = All-from_recursion (λ b. is_line_end_byte b ≡ false) (step_
 
 pub step_front : (text : List ℕ) (node : NodeId) → 9 ≤ length text
     → (get_or text 0 0 ≡ 115) → (get_or text 1 0 ≡ 116) → (get_or text 2 0 ≡ 101) → (get_or text 3 0 ≡ 112) → (get_or text 4 0 ≡ 32)
-    → (name_of_node node ++ 10 ∷ []) ≡ (get_or text 5 0 ∷ get_or text 6 0 ∷ get_or text 7 0 ∷ get_or text 8 0 ∷ []) → IsAhead text (Step node) 8
+    → (name_of_node node ++ 10 ∷ []) ≡ (get_or text 5 0 ∷ get_or text 6 0 ∷ get_or text 7 0 ∷ get_or text 8 0 ∷ []) → IsCommandAhead text (Step node) 8
 unfolding step_line
 step_front text node long b0 b1 b2 b3 b4 name = record {
   line = step_line node;
@@ -156,7 +156,7 @@ six_are text b0 b1 b2 b3 b4 b5 long k1 k2 k3 k4 l1 l2 l3 l4 first last word =
     six text long ∙ rw (first, same.0, same.1, same.2, same.3, last) refl
 
 -- `count` and a line feed
-pub count_front : (text : List ℕ) → take 6 text ≡ codes "count\n" → IsAhead text Count 5
+pub count_front : (text : List ℕ) → take 6 text ≡ codes "count\n" → IsCommandAhead text Count 5
 count_front text front = record {
   line = codes "count";
   more = drop 6 text;
@@ -179,7 +179,7 @@ head_feeds node = All-from_recursion (λ b. is_line_end_byte b ≡ false) (rewin
 -- a number after the head of a rewind
 pub rewind_front : (text : List ℕ) (node : NodeId) (k digits : ℕ) → 11 ≤ length text → take 6 text ≡ codes "rewind" → (get_or text 6 0 ≡ 32) → (get_or text 10 0 ≡ 32)
     → (name_of_node node ++ 10 ∷ []) ≡ (get_or text 7 0 ∷ get_or text 8 0 ∷ get_or text 9 0 ∷ 10 ∷ [])
-    → IsNumberAhead (drop 11 text) k digits → IsAhead text (Rewind node k) (11 + digits)
+    → IsNumberAhead (drop 11 text) k digits → IsCommandAhead text (Rewind node k) (11 + digits)
 unfolding rewind_head
 rewind_front text node k digits long front b6 b10 name h =
     let bytes = sym (six text (omega arith)) ∙ front in
@@ -220,14 +220,14 @@ pub name_same : (node : NodeId) (four : List ℕ) (row tens ones feed : ℕ) →
     → (name_of_node node ++ 10 ∷ []) ≡ (row ∷ tens ∷ ones ∷ feed ∷ [])
 name_same node four row tens ones feed e kr kt ko kf sums =
     let small : node.number < 144 = node.in_range in
-    let n = yxx_of node.number in
+    let n = decimal_name_of_node node.number in
     let whole : 48 + n / 100 + 256 * (48 + n / 10 % 10) + 65536 * (48 + n % 10) + 16777216 * 32 ≡ row + 256 * tens + 65536 * ones + 16777216 * feed + 369098752 = rw e at sums in
     let same = same_bytes (48 + n / 100) (48 + n / 10 % 10) (48 + n % 10) 10 row tens ones feed (omega arith) (omega arith) (omega arith) (omega arith) kr kt ko kf (omega arith) in
     rw (← same.0, ← same.1, ← same.2, ← same.3) refl
 
 -- where it spells a command
-pub line_front : (text : List ℕ) (asked : Command) (count : ℕ) → IsLineAhead text count
-    → SpellsCommand asked (take count text) → ((other : Command) → SpellsCommand other (take count text) → other ≡ asked) → asked ≢ Quit → IsAhead text asked count
+pub line_front : (text : List ℕ) (asked : DebuggerCommand) (count : ℕ) → IsLineAhead text count
+    → SpellsCommand asked (take count text) → ((other : DebuggerCommand) → SpellsCommand other (take count text) → other ≡ asked) → asked ≢ Quit → IsCommandAhead text asked count
 line_front text asked count h spelled only not_quit = record {
   line = take count text;
   more = drop (count + 1) text;
@@ -262,7 +262,7 @@ behind bytes line more now count splits counts e =
     e ∙ ap (drop (count + 1)) splits ∙ ap (λ (n : ℕ). drop (n + 1) (line ++ 10 ∷ more)) (sym counts) ∙ drop-append-add line (10 ∷ more) 1
 
 -- what is there and what may still come, where the line ahead is taken
-pub ahead_whole : (bytes now rest : List ℕ) (asked : Command) (count : ℕ) (h : IsAhead bytes asked count) → now ≡ drop (count + 1) bytes
+pub ahead_whole : (bytes now rest : List ℕ) (asked : DebuggerCommand) (count : ℕ) (h : IsCommandAhead bytes asked count) → now ≡ drop (count + 1) bytes
     → bytes ++ rest ≡ h.line ++ 10 ∷ (now ++ rest)
 ahead_whole bytes now rest asked count h e =
     ap (λ (t : List ℕ). t ++ rest) h.splits ∙ append_assoc h.line (10 ∷ h.more) rest

@@ -6,10 +6,10 @@ use Rattle.std.proofs.lemmas.List.{append-nil, take_all}
 use Rattle.std.proofs.Math.Seq.{take-append_seam}
 use Rattle.std.proofs.lemmas.Grind.{flat_map-append}
 use Rattle.std.proofs.lemmas.Bool.Decides.{nat_tests}
-use Rattle.ga_text.specs.Lines.{lines_of, line_with_line_feed, text_of_lines, terminated_lines, HasNoLineFeed}
-use Rattle.ga_console.specs.Session.{AnswerRelation, quit_line, Answers, AnswersLinesUntilRefusal, WritesAnswersBy, HasNoQuit, lines_within_bound, ReadsWholeLines, ReadsLines, QuitsAfter, ServesCommandsBy, ServesToEnd, ServesToQuit, ServesToRefusal, ServesToInputLimit, ServesToReadFailure, ServesToWriteFailureBy}
+use Rattle.ga_text.specs.Lines.{lines_of_text, line_with_line_feed, text_of_lines, terminated_lines, HasNoLineFeed}
+use Rattle.ga_console.specs.Session.{AnswerRelation, quit_line, AreLinesAnswered, AnswersLinesUntilRefusal, WritesAnswersWithLimitRefusal, HasNoQuit, lines_within_input_limit, AreLinesEndedUnlessInputEnds, ReadsLinesFirst, QuitsAfterLines, ServesCommandsWithLimitRefusal, ServesToEnd, ServesToQuit, ServesToRefusal, ServesToInputLimit, ServesToReadFailure, ServesToWriteFailure}
 use Rattle.ga_console.specs.declared.commands.CommandsEnd.{CommandsEnd}
-use Rattle.ga_console.specs.declared.commands.CommandsEnd.TheVariants.{Ended, Quit, Refused, Past, ReadFailed}
+use Rattle.ga_console.specs.declared.commands.CommandsEnd.TheVariants.{InputEnded, Quit, Refused, PastLimit, ReadFailed}
 use Rattle.ga_console.proofs.Ending.{EndsAt, IsAnswered}
 use Rattle.ga_text.specs.declared.output.WriteError.{WriteError}
 use Rattle.ga_text.proofs.TextLemmas.{lines_front, ended_front, lines_last, ended_whole, more_lines}
@@ -24,7 +24,7 @@ all_push P [] line h p = (p, tt)
 all_push P (l ∷ ls) line h p = (h.0, all_push P ls line h.1 p)
 
 answers_push : {M : Type 0} (A : AnswerRelation M) (m : M) (lines : List (List ℕ)) (text : List ℕ) (next : M) (line answer : List ℕ) (new : M)
-    → Answers A m lines text next → A next line answer new → Answers A m (lines ++ line ∷ []) (text ++ answer) new
+    → AreLinesAnswered A m lines text next → A next line answer new → AreLinesAnswered A m (lines ++ line ∷ []) (text ++ answer) new
 answers_push {M} A m [] text next line answer new h a =
     let P : M → Type 0 = λ s. A s line answer new in
     (answer, new, [], subst P h.1 a, (refl, refl), ap (λ (t : List ℕ). t ++ answer) h.0 ∙ sym (append-nil answer))
@@ -37,7 +37,7 @@ pub record Heard {M : Type 0} (A : AnswerRelation M) (first : M) (whole : List �
   pub splits : whole ≡ text_of_lines lines ++ left
   pub feeds : AllByRecursion HasNoLineFeed lines
   pub no_quit : HasNoQuit lines
-  pub answers : Answers A first lines text m
+  pub answers : AreLinesAnswered A first lines text m
   pub counts : taken ≡ start + length (text_of_lines lines)
   pub numbers : number ≡ length lines
 
@@ -50,19 +50,19 @@ le-true a b h = grind (arith, nat_tests)
 le-false : (a b : ℕ) → b < a → nat_le a b ≡ false
 le-false a b h = grind (arith, nat_tests)
 
-heard_within : (room : ℕ) (read : List ℕ) → length read ≤ room → lines_within_bound room read ≡ lines_of read
+heard_within : (room : ℕ) (read : List ℕ) → length read ≤ room → lines_within_input_limit room read ≡ lines_of_text read
 heard_within room read h = go (nat_le (length read) room) (le-true (length read) room h) where
-  go : (b : Bool) → b ≡ true → cond b (lines_of read) (terminated_lines (take room read)) ≡ lines_of read
+  go : (b : Bool) → b ≡ true → cond b (lines_of_text read) (terminated_lines (take room read)) ≡ lines_of_text read
   go b e = rw e refl
 
-heard_over : (room : ℕ) (read : List ℕ) → room < length read → lines_within_bound room read ≡ terminated_lines (take room read)
+heard_over : (room : ℕ) (read : List ℕ) → room < length read → lines_within_input_limit room read ≡ terminated_lines (take room read)
 heard_over room read h = go (nat_le (length read) room) (le-false (length read) room h) where
-  go : (b : Bool) → b ≡ false → cond b (lines_of read) (terminated_lines (take room read)) ≡ terminated_lines (take room read)
+  go : (b : Bool) → b ≡ false → cond b (lines_of_text read) (terminated_lines (take room read)) ≡ terminated_lines (take room read)
   go b e = rw e refl
 
 -- a line `quit` comes after the lines before it
-behind_quit : (read rest : List ℕ) (heard after : List (List ℕ)) → QuitsAfter read rest heard after
-    → (more : List (List ℕ)) × (lines_of read ≡ heard ++ more)
+behind_quit : (read rest : List ℕ) (heard after : List (List ℕ)) → QuitsAfterLines read rest heard after
+    → (more : List (List ℕ)) × (lines_of_text read ≡ heard ++ more)
 behind_quit read rest heard after (inl e) =
     let more = more_lines read in (
       (quit_line ∷ after) ++ more.more,
@@ -71,30 +71,30 @@ behind_quit read rest heard after (inl e) =
 behind_quit read rest heard after (inr e) = (quit_line ∷ [], e.1)
 
 whole_quit : (room : ℕ) (read rest : List ℕ) (heard after : List (List ℕ)) → length read ≤ room
-    → QuitsAfter read rest heard after → ReadsWholeLines room read rest heard
+    → QuitsAfterLines read rest heard after → AreLinesEndedUnlessInputEnds room read rest heard
 whole_quit room read rest heard after short (inl e) = inr (quit_line ∷ after, ap terminated_lines (take_all room read short) ∙ e)
 whole_quit room read rest heard after short (inr e) = inl e.0
 
 -- these lines come first among all that was read
-behind_lines : (read rest : List ℕ) (heard after : List (List ℕ)) → ReadsLines read rest heard after
-    → (more : List (List ℕ)) × (lines_of read ≡ heard ++ more)
+behind_lines : (read rest : List ℕ) (heard after : List (List ℕ)) → ReadsLinesFirst read rest heard after
+    → (more : List (List ℕ)) × (lines_of_text read ≡ heard ++ more)
 behind_lines read rest heard after (inl e) =
     let more = more_lines read in
     (after ++ more.more, more.same ∙ ap (λ (ls : List (List ℕ)). ls ++ more.more) e ∙ append_assoc heard after more.more)
 behind_lines read rest heard after (inr e) = ([], e.1 ∙ sym (append-nil heard))
 
 whole_lines : (room : ℕ) (read rest : List ℕ) (heard after : List (List ℕ)) → length read ≤ room
-    → ReadsLines read rest heard after → ReadsWholeLines room read rest heard
+    → ReadsLinesFirst read rest heard after → AreLinesEndedUnlessInputEnds room read rest heard
 whole_lines room read rest heard after short (inl e) = inr (after, ap terminated_lines (take_all room read short) ∙ e)
 whole_lines room read rest heard after short (inr e) = inl e.0
 
 -- If a write failed at last, what was written is in the script.
 pub cut_short : {M : Type 0} (past : List ℕ) (A R : AnswerRelation M) (room : ℕ) (m : M) (read rest text : List ℕ) (last : M) (ending : Result CommandsEnd WriteError)
-    → ServesCommandsBy past A R room m read rest text last ending → ServesToWriteFailureBy past A R room m read rest text last
-cut_short past A R room m read rest text last (Ok Ended) s = record {
-  heard = lines_of read;
+    → ServesCommandsWithLimitRefusal past A R room m read rest text last ending → ServesToWriteFailure past A R room m read rest text last
+cut_short past A R room m read rest text last (Ok InputEnded) s = record {
+  heard = lines_of_text read;
   after = [];
-  front = heard_within room read s.within ∙ sym (append-nil (lines_of read));
+  front = heard_within room read s.within ∙ sym (append-nil (lines_of_text read));
   no_quit = s.no_quit;
   script = inl s.answers;
   whole = inl s.at_end;
@@ -119,7 +119,7 @@ cut_short past A R room m read rest text last (Ok (Refused number)) s =
       script = inr (inl s.answers);
       whole = whole_lines room read rest s.heard s.after s.within s.front;
     }
-cut_short past A R room m read rest text last (Ok (Past number)) s =
+cut_short past A R room m read rest text last (Ok (PastLimit number)) s =
     let long : room < length read = omega (arith, s.over) in
     record {
       heard = terminated_lines (take room read);
@@ -169,13 +169,13 @@ module _ {M : Type 0} {A : AnswerRelation M} {first : M} {whole : List ℕ} {sta
   }
 
   -- A write failed: the lines heard were answered.
-  pub heard_cut : (past : List ℕ) (R : AnswerRelation M) (bytes rest : List ℕ) → taken + length bytes ≤ 16777216 → ServesToWriteFailureBy past A R (16777216 - start) first (read_to bytes) rest text m
+  pub heard_cut : (past : List ℕ) (R : AnswerRelation M) (bytes rest : List ℕ) → taken + length bytes ≤ 16777216 → ServesToWriteFailure past A R (16777216 - start) first (read_to bytes) rest text m
   unfolding read_to
   heard_cut past R bytes rest within =
       let short : length (read_to bytes) ≤ 16777216 - start = omega (arith, within, length_to bytes, h.counts) in
       record {
         heard = h.lines;
-        after = lines_of bytes;
+        after = lines_of_text bytes;
         front = heard_within (16777216 - start) (read_to bytes) short ∙ lines_front h.lines bytes h.feeds;
         no_quit = h.no_quit;
         script = inl h.answers;
@@ -188,7 +188,7 @@ module _ {M : Type 0} {A : AnswerRelation M} {first : M} {whole : List ℕ} {sta
   heard_failed part rest none short =
       let same : h.lines ≡ terminated_lines (read_to part) = sym (ended_whole h.lines part h.feeds none) in
       let P : List (List ℕ) → Type 0 = λ ls. HasNoQuit ls in
-      let Q : List (List ℕ) → Type 0 = λ ls. Answers A first ls text m in
+      let Q : List (List ℕ) → Type 0 = λ ls. AreLinesAnswered A first ls text m in
       record {
         within = omega (arith, short, length_to part, h.counts);
         no_quit = subst P same h.no_quit;
@@ -199,10 +199,10 @@ module _ {M : Type 0} {A : AnswerRelation M} {first : M} {whole : List ℕ} {sta
   pub heard_ended : (part rest : List ℕ) → part ≡ [] → rest ≡ [] → taken + length part ≤ 16777216 → ServesToEnd A (16777216 - start) first (read_to part) rest text m
   unfolding read_to
   heard_ended part rest none nothing short =
-      let same : h.lines ≡ lines_of (read_to part) =
-      sym (ap (λ (p : List ℕ). lines_of (text_of_lines h.lines ++ p)) none ∙ lines_front h.lines [] h.feeds ∙ append-nil h.lines) in
+      let same : h.lines ≡ lines_of_text (read_to part) =
+      sym (ap (λ (p : List ℕ). lines_of_text (text_of_lines h.lines ++ p)) none ∙ lines_front h.lines [] h.feeds ∙ append-nil h.lines) in
       let P : List (List ℕ) → Type 0 = λ ls. HasNoQuit ls in
-      let Q : List (List ℕ) → Type 0 = λ ls. Answers A first ls text m in
+      let Q : List (List ℕ) → Type 0 = λ ls. AreLinesAnswered A first ls text m in
       record {
         within = omega (arith, short, length_to part, h.counts);
         at_end = nothing;
@@ -210,7 +210,7 @@ module _ {M : Type 0} {A : AnswerRelation M} {first : M} {whole : List ℕ} {sta
         answers = subst Q same h.answers;
       }
 
-  lines_to : (part : List ℕ) → HasNoLineFeed part → 0 < length part → h.lines ++ part ∷ [] ≡ lines_of (read_to part)
+  lines_to : (part : List ℕ) → HasNoLineFeed part → 0 < length part → h.lines ++ part ∷ [] ≡ lines_of_text (read_to part)
   unfolding read_to
   lines_to part none some = sym (lines_front h.lines part h.feeds ∙ ap (λ (ls : List (List ℕ)). h.lines ++ ls) (lines_last part none some))
 
@@ -220,7 +220,7 @@ module _ {M : Type 0} {A : AnswerRelation M} {first : M} {whole : List ℕ} {sta
   heard_last part rest answer new none some nothing short a =
       let same = lines_to part none some in
       let P : List (List ℕ) → Type 0 = λ ls. HasNoQuit ls in
-      let Q : List (List ℕ) → Type 0 = λ ls. Answers A first ls (text ++ answer) new in
+      let Q : List (List ℕ) → Type 0 = λ ls. AreLinesAnswered A first ls (text ++ answer) new in
       record {
         within = omega (arith, short, length_to part, h.counts);
         at_end = nothing;
@@ -285,7 +285,7 @@ module _ {M : Type 0} {A : AnswerRelation M} {first : M} {whole : List ℕ} {sta
       sym (ap (λ (n : ℕ). terminated_lines (take n (read_to part ++ b ∷ []))) room
       ∙ ap terminated_lines (take-append_seam (read_to part) (b ∷ [])) ∙ ended_whole h.lines part h.feeds none) in
       let P : List (List ℕ) → Type 0 = λ ls. HasNoQuit ls in
-      let Q : List (List ℕ) → Type 0 = λ ls. Answers A first ls text m in
+      let Q : List (List ℕ) → Type 0 = λ ls. AreLinesAnswered A first ls text m in
       record {
         over = omega (arith, length-append (read_to part) (b ∷ []), room);
         no_quit = subst P same h.no_quit;
@@ -323,17 +323,17 @@ module _ {M : Type 0} {A : AnswerRelation M} {first : M} {whole : List ℕ} {sta
 
   pub heard_ends : (past : List ℕ) (R : AnswerRelation M) (part bytes rest answer : List ℕ) (now n : ℕ) (new : M) (ending : CommandsEnd) → HasNoLineFeed part → now ≡ taken + length part + 1
       → now + length bytes ≤ 16777216 → n ≡ number + 1 → EndsAt R m part n answer new ending
-      → ServesCommandsBy past A R (16777216 - start) first (read_past part bytes) rest (text ++ answer) new (Ok ending)
-  heard_ends past R part bytes rest answer now n new Ended none counts short one e = absurd e
+      → ServesCommandsWithLimitRefusal past A R (16777216 - start) first (read_past part bytes) rest (text ++ answer) new (Ok ending)
+  heard_ends past R part bytes rest answer now n new InputEnded none counts short one e = absurd e
   heard_ends past R part bytes rest answer now n new Quit none counts short one e =
       quits R (read_past part bytes) rest answer new e.1 e.2 (heard_quit part bytes rest now none e.0 counts short)
   heard_ends past R part bytes rest answer now n new (Refused k) none counts short one e =
       refused_here R part bytes rest answer now k new none counts short (e.0 ∙ one) (e.1, e.2)
-  heard_ends past R part bytes rest answer now n new (Past k) none counts short one e = absurd e
+  heard_ends past R part bytes rest answer now n new (PastLimit k) none counts short one e = absurd e
   heard_ends past R part bytes rest answer now n new ReadFailed none counts short one e = absurd e
 
   script_push : (past : List ℕ) (R : AnswerRelation M) (part read answer : List ℕ) (new : M) → IsAnswered A m part answer new ⊎ IsAnswered R m part answer new
-      → WritesAnswersBy past A R (16777216 - start) first read (h.lines ++ part ∷ []) (text ++ answer) new
+      → WritesAnswersWithLimitRefusal past A R (16777216 - start) first read (h.lines ++ part ∷ []) (text ++ answer) new
   script_push past R part read answer new (inl a) = inl (answers_push A first h.lines text m part answer new h.answers a.0)
   script_push past R part read answer new (inr a) = inr (inl (refusal_push R part answer new a.0))
 
@@ -343,14 +343,14 @@ module _ {M : Type 0} {A : AnswerRelation M} {first : M} {whole : List ℕ} {sta
 
   pub heard_broken : (past : List ℕ) (R : AnswerRelation M) (part bytes rest answer : List ℕ) (now : ℕ) (new : M) → HasNoLineFeed part → now ≡ taken + length part + 1
       → now + length bytes ≤ 16777216 → IsAnswered A m part answer new ⊎ IsAnswered R m part answer new
-      → ServesToWriteFailureBy past A R (16777216 - start) first (read_past part bytes) rest (text ++ answer) new
+      → ServesToWriteFailure past A R (16777216 - start) first (read_past part bytes) rest (text ++ answer) new
   unfolding read_past
   heard_broken past R part bytes rest answer now new none counts short a =
       let within : length (read_past part bytes) ≤ 16777216 - start = omega (arith, short, counts, length_past part bytes, h.counts) in
       let feeds = all_push HasNoLineFeed h.lines part h.feeds none in
       record {
         heard = h.lines ++ part ∷ [];
-        after = lines_of bytes;
+        after = lines_of_text bytes;
         front = heard_within (16777216 - start) (read_past part bytes) within ∙ lines_front (h.lines ++ part ∷ []) bytes feeds;
         no_quit = other_push R part answer new a;
         script = script_push past R part (read_past part bytes) answer new a;
@@ -373,18 +373,18 @@ module _ {M : Type 0} {A : AnswerRelation M} {first : M} {whole : List ℕ} {sta
 
   pub heard_last_ends : (past : List ℕ) (R : AnswerRelation M) (part rest answer : List ℕ) (n : ℕ) (new : M) (ending : CommandsEnd) → HasNoLineFeed part → 0 < length part → rest ≡ []
       → taken + length part ≤ 16777216 → n ≡ number + 1 → EndsAt R m part n answer new ending
-      → ServesCommandsBy past A R (16777216 - start) first (read_to part) rest (text ++ answer) new (Ok ending)
-  heard_last_ends past R part rest answer n new Ended none some nothing short one e = absurd e
+      → ServesCommandsWithLimitRefusal past A R (16777216 - start) first (read_to part) rest (text ++ answer) new (Ok ending)
+  heard_last_ends past R part rest answer n new InputEnded none some nothing short one e = absurd e
   heard_last_ends past R part rest answer n new Quit none some nothing short one e =
       quits R (read_to part) rest answer new e.1 e.2 (heard_quit_last part rest none e.0 nothing short)
   heard_last_ends past R part rest answer n new (Refused k) none some nothing short one e =
       refused_last R part rest answer k new none some nothing short (e.0 ∙ one) (e.1, e.2)
-  heard_last_ends past R part rest answer n new (Past k) none some nothing short one e = absurd e
+  heard_last_ends past R part rest answer n new (PastLimit k) none some nothing short one e = absurd e
   heard_last_ends past R part rest answer n new ReadFailed none some nothing short one e = absurd e
 
   pub heard_last_broken : (past : List ℕ) (R : AnswerRelation M) (part rest answer : List ℕ) (new : M) → HasNoLineFeed part → 0 < length part → rest ≡ []
       → taken + length part ≤ 16777216 → IsAnswered A m part answer new ⊎ IsAnswered R m part answer new
-      → ServesToWriteFailureBy past A R (16777216 - start) first (read_to part) rest (text ++ answer) new
+      → ServesToWriteFailure past A R (16777216 - start) first (read_to part) rest (text ++ answer) new
   heard_last_broken past R part rest answer new none some nothing short a =
       let within : length (read_to part) ≤ 16777216 - start = omega (arith, short, length_to part, h.counts) in
       record {

@@ -7,21 +7,21 @@ use Rattle.std.proofs.lemmas.List.{length-replicate}
 use Rattle.std.proofs.lemmas.List.Sums.{sum_by-cons}
 use Rattle.std.proofs.lemmas.Option.{slice_get_within}
 use Rattle.ga_node.specs.Record.{NodeState, NodeRecord}
-use Rattle.ga_grid.specs.Chip.{records_of}
+use Rattle.ga_grid.specs.Chip.{records_of_chip}
 use Rattle.ga_grid.specs.Grid.{node_id}
 use Rattle.ga_shared.specs.declared.call.Call.{Call}
 use Rattle.ga_shared.specs.declared.call.Call.TheVariants.{Step}
-use Rattle.ga_shared.specs.declared.closing.ClosedLab.{ClosedLab}
-use Rattle.ga_shared.specs.Log.{IsRaceResult}
-use Rattle.ga_text.specs.Lines.{lines_of}
+use Rattle.ga_shared.specs.declared.closing.UnsharedLab.{UnsharedLab}
+use Rattle.ga_shared.specs.Log.{IsConcurrentCallsResult}
+use Rattle.ga_text.specs.Lines.{lines_of_text}
 use Rattle.ga_image.specs.Grammar.{IsImage}
-use Rattle.ga_image.specs.FirstFault.{IsFirstFault, memory_fault}
+use Rattle.ga_image.specs.FirstFault.{IsFirstImageFault, out_of_memory_fault}
 use Rattle.ga_image.specs.declared.fault.ImageFault.{ImageFault}
-use Rattle.ga_image.specs.declared.fault.ImageCause.TheVariants.{Memory}
-use Rattle.ga_lab.specs.Machine.{State}
+use Rattle.ga_image.specs.declared.fault.ImageFaultCause.TheVariants.{Memory}
+use Rattle.ga_lab.specs.Machine.{MachineState}
 use Rattle.ga_display.specs.Texts.{image_fault_text}
-use Rattle.ga_console.specs.Race.{worker_calls, IsRaceOfWorkers, WritesRaceReport, race_report_text}
-use Rattle.ga_console.specs.inner.Run.{Writes, Races}
+use Rattle.ga_console.specs.Race.{worker_calls, IsRaceOfWorkers, WritesWorkerRaceReport, worker_race_report_text}
+use Rattle.ga_console.specs.inner.Run.{WritesTextWithStatus, WritesWorkerRaceAfterImage}
 use Rattle.ga_console.specs.declared.run.Status.{Status}
 use Rattle.ga_console.specs.declared.run.Status.TheVariants.{Done, ImageRefused, StreamFault, NotFinished, CommandRefused}
 
@@ -53,8 +53,8 @@ sum_by-lengths (x ∷ xs) c each =
     sum_by-cons length x xs ∙ omega (arith, here, more)
 
 -- as many calls as all lists have
-pub race_count : (load : List NodeRecord) (limit workers calls : ℕ) (lists : List (List Call)) (closed : ClosedLab) → length lists ≡ workers
-    → ((w : ℕ) → w < workers → slice_get lists w ≡ Some (worker_calls w calls)) → IsRaceResult load limit lists closed → length closed.log.items ≡ workers * calls
+pub race_count : (load : List NodeRecord) (limit workers calls : ℕ) (lists : List (List Call)) (closed : UnsharedLab) → length lists ≡ workers
+    → ((w : ℕ) → w < workers → slice_get lists w ≡ Some (worker_calls w calls)) → IsConcurrentCallsResult load limit lists closed → length closed.log.items ≡ workers * calls
 race_count load limit workers calls lists closed size at raced =
     let each : (w : ℕ) (list : List Call) → slice_get lists w ≡ Some list → length list ≡ calls =
     λ w list is. (
@@ -66,8 +66,8 @@ race_count load limit workers calls lists closed size at raced =
     raced.count ∙ sum_by-lengths lists calls each ∙ ap (λ n. n * calls) size
 
 -- the race of these lists
-pub is_race : (load : List NodeRecord) (limit workers calls : ℕ) (lists : List (List Call)) (closed : ClosedLab) → length lists ≡ workers
-    → ((w : ℕ) → w < workers → slice_get lists w ≡ Some (worker_calls w calls)) → IsRaceResult load limit lists closed → IsRaceOfWorkers load limit workers calls closed.lab
+pub is_race : (load : List NodeRecord) (limit workers calls : ℕ) (lists : List (List Call)) (closed : UnsharedLab) → length lists ≡ workers
+    → ((w : ℕ) → w < workers → slice_get lists w ≡ Some (worker_calls w calls)) → IsConcurrentCallsResult load limit lists closed → IsRaceOfWorkers load limit workers calls closed.lab
 is_race load limit workers calls lists closed size at raced = record {
   log = closed.log.items;
   legal = raced.legal;
@@ -76,18 +76,18 @@ is_race load limit workers calls lists closed size at raced = record {
 }
 
 -- a report that was written, or not wholly
-pub races_reported : (limit workers calls : ℕ) (image text : List ℕ) (chip : List NodeState) (lab : State) (count : ℕ) (status : Status) → IsImage (lines_of image) chip → count ≡ workers * calls → IsRaceOfWorkers (records_of chip) limit workers calls lab
-    → Writes (race_report_text count lab.made (length lab.kept)) text status → Races limit workers calls image text status
+pub races_reported : (limit workers calls : ℕ) (image text : List ℕ) (chip : List NodeState) (lab : MachineState) (count : ℕ) (status : Status) → IsImage (lines_of_text image) chip → count ≡ workers * calls → IsRaceOfWorkers (records_of_chip chip) limit workers calls lab
+    → WritesTextWithStatus (worker_race_report_text count lab.made (length lab.kept)) text status → WritesWorkerRaceAfterImage limit workers calls image text status
 races_reported limit workers calls image text chip lab count Done accepted counted race written =
-    record { chip = chip; lab = lab; accepted = accepted; race = race; told = written ∙ ap (λ n. race_report_text n lab.made (length lab.kept)) counted }
+    record { chip = chip; lab = lab; accepted = accepted; race = race; told = written ∙ ap (λ n. worker_race_report_text n lab.made (length lab.kept)) counted }
 races_reported limit workers calls image text chip lab count StreamFault accepted counted race front =
-    inl (record { whole = race_report_text count lab.made (length lab.kept); is_text = record { chip = chip; lab = lab; accepted = accepted; race = race; told = ap (λ n. race_report_text n lab.made (length lab.kept)) counted }; front = front })
+    inl (record { whole = worker_race_report_text count lab.made (length lab.kept); is_text = record { chip = chip; lab = lab; accepted = accepted; race = race; told = ap (λ n. worker_race_report_text n lab.made (length lab.kept)) counted }; front = front })
 races_reported limit workers calls image text chip lab count ImageRefused accepted counted race none = absurd none
 races_reported limit workers calls image text chip lab count NotFinished accepted counted race none = absurd none
 races_reported limit workers calls image text chip lab count CommandRefused accepted counted race none = absurd none
 
 -- a refusal that was written, or not wholly
-pub races_refused : (limit workers calls : ℕ) (image text : List ℕ) (fault : ImageFault) (status : Status) → IsFirstFault (lines_of image) fault → WritesImageRefusal fault text status → Races limit workers calls image text status
+pub races_refused : (limit workers calls : ℕ) (image text : List ℕ) (fault : ImageFault) (status : Status) → IsFirstImageFault (lines_of_text image) fault → WritesImageRefusal fault text status → WritesWorkerRaceAfterImage limit workers calls image text status
 races_refused limit workers calls image text fault Done first none = absurd none
 races_refused limit workers calls image text fault ImageRefused first told = record { fault = fault; first = first; told = told }
 races_refused limit workers calls image text fault StreamFault first front = inr (record { whole = image_fault_text fault; is_text = record { fault = fault; first = first; told = refl }; front = front })
@@ -95,12 +95,12 @@ races_refused limit workers calls image text fault NotFinished first none = absu
 races_refused limit workers calls image text fault CommandRefused first none = absurd none
 
 -- the fault of a text that isn't refused for want of memory
-pub first_fault : (image : List ℕ) (fault : ImageFault) → (fault ≡ memory_fault) ⊎ IsFirstFault (lines_of image) fault → fault.cause ≢ Memory → IsFirstFault (lines_of image) fault
+pub first_fault : (image : List ℕ) (fault : ImageFault) → (fault ≡ out_of_memory_fault) ⊎ IsFirstImageFault (lines_of_text image) fault → fault.cause ≢ Memory → IsFirstImageFault (lines_of_text image) fault
 first_fault image fault (inl e) other = absurd (other (ap (λ f. f.cause) e))
 first_fault image fault (inr first) other = first
 
 -- the report about the image that was read
-pub reports : (limit workers calls : ℕ) (image ahead read rest text : List ℕ) (status : Status) → read ≡ image ++ ahead → ReadsOnlyImage image ahead rest → Races limit workers calls image text status → WritesRaceReport limit workers calls read rest text status
+pub reports : (limit workers calls : ℕ) (image ahead read rest text : List ℕ) (status : Status) → read ≡ image ++ ahead → ReadsOnlyImage image ahead rest → WritesWorkerRaceAfterImage limit workers calls image text status → WritesWorkerRaceReport limit workers calls read rest text status
 reports limit workers calls image ahead read rest text Done e part races = (image, ahead, e, part, races)
 reports limit workers calls image ahead read rest text ImageRefused e part races = (image, ahead, e, part, races)
 reports limit workers calls image ahead read rest text StreamFault e part races = inr (image, ahead, e, part, races)

@@ -5,11 +5,11 @@ use Rattle.ga_image.proofs.Room.{short_image}
 use Rattle.ga_image.specs.declared.fault.ImageFault.{ImageFault}
 use Rattle.ga_text.specs.Input.{input_limit}
 use Rattle.ga_text.specs.Image.{HasNoEndLine}
-use Rattle.ga_text.specs.Output.{IsTextWritten, ready}
-use Rattle.ga_lab.specs.Machine.{State}
+use Rattle.ga_text.specs.Output.{IsTextWrittenOrPending, writer_with_ready_line}
+use Rattle.ga_lab.specs.Machine.{MachineState}
 use Rattle.ga_console.specs.Session.{AnswerRelation, ServesCommands, IsWholeOrPrefixOnWriteError}
-use Rattle.ga_console.specs.Run.{WritesSessionBy, IsServedSession, Refused, WritesImageRefusal, IsOpenedOnImage, IsFaultOfImage, IsImageOfInput, ReadsOnlyImage, status_of_commands_end}
-use Rattle.ga_console.specs.inner.Run.{AfterImage}
+use Rattle.ga_console.specs.Run.{WritesSessionOfResponder, IsServedSession, Refused, WritesImageRefusal, IsOpenedOnImage, IsFaultOfImage, IsImageBeforeCommands, ReadsOnlyImage, status_of_commands_end}
+use Rattle.ga_console.specs.inner.Run.{WritesSessionAfterImage}
 use Rattle.ga_console.specs.declared.commands.CommandsEnd.{CommandsEnd}
 use Rattle.ga_console.specs.declared.commands.CommandsEnd.TheVariants as end
 use Rattle.ga_text.specs.declared.output.WriteError.{WriteError}
@@ -17,11 +17,11 @@ use Rattle.ga_console.specs.declared.run.Status.{Status}
 use Rattle.ga_console.specs.declared.run.Status.TheVariants.{Done, ImageRefused, StreamFault, NotFinished, CommandRefused}
 
 -- a text that nothing was written of yet
-pub written_fresh : (contents : Option (List ℕ)) (before text pending : List ℕ) → contents ≡ Some before → pending ≡ text → IsTextWritten contents before text pending
+pub written_fresh : (contents : Option (List ℕ)) (before text pending : List ℕ) → contents ≡ Some before → pending ≡ text → IsTextWrittenOrPending contents before text pending
 written_fresh contents before text pending e p = record { sent = []; held = e ∙ ap Some (sym (append-nil before)); splits = sym p }
 
 -- and all was written of
-pub all_sent : (contents : Option (List ℕ)) (before text : List ℕ) (h : IsTextWritten contents before text []) → h.sent ≡ text
+pub all_sent : (contents : Option (List ℕ)) (before text : List ℕ) (h : IsTextWrittenOrPending contents before text []) → h.sent ≡ text
 all_sent contents before text h = sym (h.splits ∙ append-nil h.sent)
 
 -- the same machine under another name
@@ -30,26 +30,26 @@ pub serves_from : {M : Type 0} (A R : AnswerRelation M) (room : ℕ) (m other : 
 serves_from {M} A R room m other read rest text last ending e s =
     let P : M → Type 0 = λ x. ServesCommands A R room x read rest text last ending in subst P e s
 
-pub runs_served : {M : Type 0} (A R : AnswerRelation M) (begin : State → M) (limit : ℕ) (read rest text : List ℕ) (ending : Result CommandsEnd WriteError) (status : Status) → status ≡ status_of_commands_end ending
-    → IsServedSession A R begin limit read rest text ending → WritesSessionBy A R begin limit read rest text status
+pub runs_served : {M : Type 0} (A R : AnswerRelation M) (begin : MachineState → M) (limit : ℕ) (read rest text : List ℕ) (ending : Result CommandsEnd WriteError) (status : Status) → status ≡ status_of_commands_end ending
+    → IsServedSession A R begin limit read rest text ending → WritesSessionOfResponder A R begin limit read rest text status
 runs_served A R begin limit read rest text ending Done e s = (ending, sym e, s)
-runs_served A R begin limit read rest text (Ok end.Ended) ImageRefused e s = cc
+runs_served A R begin limit read rest text (Ok end.InputEnded) ImageRefused e s = cc
 runs_served A R begin limit read rest text (Ok end.Quit) ImageRefused e s = cc
 runs_served A R begin limit read rest text (Ok (end.Refused number)) ImageRefused e s = cc
-runs_served A R begin limit read rest text (Ok (end.Past number)) ImageRefused e s = cc
+runs_served A R begin limit read rest text (Ok (end.PastLimit number)) ImageRefused e s = cc
 runs_served A R begin limit read rest text (Ok end.ReadFailed) ImageRefused e s = cc
 runs_served A R begin limit read rest text (Err failed) ImageRefused e s = cc
 runs_served A R begin limit read rest text ending StreamFault e s = inl (ending, sym e, s)
-runs_served A R begin limit read rest text (Ok end.Ended) NotFinished e s = cc
+runs_served A R begin limit read rest text (Ok end.InputEnded) NotFinished e s = cc
 runs_served A R begin limit read rest text (Ok end.Quit) NotFinished e s = cc
 runs_served A R begin limit read rest text (Ok (end.Refused number)) NotFinished e s = cc
-runs_served A R begin limit read rest text (Ok (end.Past number)) NotFinished e s = cc
+runs_served A R begin limit read rest text (Ok (end.PastLimit number)) NotFinished e s = cc
 runs_served A R begin limit read rest text (Ok end.ReadFailed) NotFinished e s = cc
 runs_served A R begin limit read rest text (Err failed) NotFinished e s = cc
 runs_served A R begin limit read rest text ending CommandRefused e s = (ending, sym e, s)
 
-pub runs_refused : {M : Type 0} (A R : AnswerRelation M) (begin : State → M) (limit : ℕ) (read rest text : List ℕ) (fault : ImageFault) (status : Status) → Refused read rest fault → WritesImageRefusal fault text status
-    → WritesSessionBy A R begin limit read rest text status
+pub runs_refused : {M : Type 0} (A R : AnswerRelation M) (begin : MachineState → M) (limit : ℕ) (read rest text : List ℕ) (fault : ImageFault) (status : Status) → Refused read rest fault → WritesImageRefusal fault text status
+    → WritesSessionOfResponder A R begin limit read rest text status
 runs_refused A R begin limit read rest text fault Done r t = absurd t
 runs_refused A R begin limit read rest text fault ImageRefused r t = (fault, r, t)
 runs_refused A R begin limit read rest text fault StreamFault r t = inr (inr (fault, r, t))
@@ -60,11 +60,11 @@ pub refused_in : (image ahead rest : List ℕ) (fault : ImageFault) → ReadsOnl
 refused_in image ahead rest fault part (inl e) = inl e
 refused_in image ahead rest fault part (inr e) = inr (record { image = image; ahead = ahead; splits = refl; part = part; faulty = e })
 
-served_in : {M : Type 0} (A R : AnswerRelation M) (begin : State → M) (limit : ℕ) (image commands rest said text : List ℕ) (machine : State) (last : M) (ending : Result CommandsEnd WriteError) → IsImageOfInput image commands rest
-    → IsOpenedOnImage image limit machine → ServesCommands A R (input_limit - length image) (begin machine) commands rest said last ending → IsWholeOrPrefixOnWriteError ending (ready ++ said) text
+served_in : {M : Type 0} (A R : AnswerRelation M) (begin : MachineState → M) (limit : ℕ) (image commands rest said text : List ℕ) (machine : MachineState) (last : M) (ending : Result CommandsEnd WriteError) → IsImageBeforeCommands image commands rest
+    → IsOpenedOnImage image limit machine → ServesCommands A R (input_limit - length image) (begin machine) commands rest said last ending → IsWholeOrPrefixOnWriteError ending (writer_with_ready_line ++ said) text
     → IsServedSession A R begin limit (image ++ commands) rest text ending
 served_in A R begin limit image commands rest said text machine last ending part opens serves written =
-    let P : State → Type 0 = λ m. ServesCommands A R (input_limit - length image) (begin m) commands rest said last ending in
+    let P : MachineState → Type 0 = λ m. ServesCommands A R (input_limit - length image) (begin m) commands rest said last ending in
     record {
       image = image;
       commands = commands;
@@ -79,9 +79,9 @@ served_in A R begin limit image commands rest said text machine last ending part
     }
 
 -- after an image that was read whole
-pub runs_after : {M : Type 0} (A R : AnswerRelation M) (begin : State → M) (limit taken : ℕ) (image ahead commands rest text : List ℕ) (status : Status) → taken ≡ length image → IsImageOfInput image commands rest
+pub runs_after : {M : Type 0} (A R : AnswerRelation M) (begin : MachineState → M) (limit taken : ℕ) (image ahead commands rest text : List ℕ) (status : Status) → taken ≡ length image → IsImageBeforeCommands image commands rest
     → (commands ≡ ahead → ReadsOnlyImage image commands rest)
-    → AfterImage A R begin limit image taken ahead commands rest text status → WritesSessionBy A R begin limit (image ++ commands) rest text status
+    → WritesSessionAfterImage A R begin limit image taken ahead commands rest text status → WritesSessionOfResponder A R begin limit (image ++ commands) rest text status
 runs_after A R begin limit taken image ahead commands rest text status e part alone (inl a) =
     let Q : ℕ → Type 0 = λ n. ServesCommands A R (input_limit - n) (begin a.0) commands rest a.4 a.5 a.2 in
     runs_served A R begin limit (image ++ commands) rest text a.2 status a.3
@@ -90,8 +90,8 @@ runs_after A R begin limit taken image ahead commands rest text status e part al
     runs_refused A R begin limit (image ++ commands) rest text a.0 status (refused_in image commands rest a.0 (alone a.3) a.1) a.2
 
 -- No image that is accepted reaches the bound of the input.
-pub runs_full : {M : Type 0} (A R : AnswerRelation M) (begin : State → M) (limit taken byte : ℕ) (image read rest text : List ℕ) (status : Status) → length image ≡ input_limit → HasNoEndLine image
-    → AfterImage A R begin limit image taken [] read rest text status → WritesSessionBy A R begin limit (image ++ byte ∷ read) rest text status
+pub runs_full : {M : Type 0} (A R : AnswerRelation M) (begin : MachineState → M) (limit taken byte : ℕ) (image read rest text : List ℕ) (status : Status) → length image ≡ input_limit → HasNoEndLine image
+    → WritesSessionAfterImage A R begin limit image taken [] read rest text status → WritesSessionOfResponder A R begin limit (image ++ byte ∷ read) rest text status
 runs_full A R begin limit taken byte image read rest text status full none (inl a) =
     absurd (let short : length image < 16777216 = short_image image a.1.0 a.1.1 in omega arith)
 runs_full A R begin limit taken byte image read rest text status full none (inr a) =

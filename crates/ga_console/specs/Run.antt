@@ -2,17 +2,17 @@
 -- answers a line, R how it answers one at which it ends, and begin its machine on a fresh one.
 use Rattle.std.specs.Prelude.{◌≡◌, ℕ, ◌-◌, ◌<◌, ◌⊎◌, List, [], ◌++◌, length, Result, Ok, Err}
 use Rattle.ga_node.specs.Record.{NodeState}
-use Rattle.ga_grid.specs.Chip.{records_of}
-use Rattle.ga_text.specs.Lines.{Bytes, Text, lines_of}
+use Rattle.ga_grid.specs.Chip.{records_of_chip}
+use Rattle.ga_text.specs.Lines.{Bytes, Text, lines_of_text}
 use Rattle.ga_image.specs.Grammar.{IsImage}
-use Rattle.ga_image.specs.FirstFault.{memory_fault, IsFirstFault}
+use Rattle.ga_image.specs.FirstFault.{out_of_memory_fault, IsFirstImageFault}
 use Rattle.ga_image.specs.declared.fault.ImageFault.{ImageFault}
 use Rattle.ga_text.specs.Input.{input_limit, input_block_size}
-use Rattle.ga_text.specs.Output.{TextHasPrefix, ready}
+use Rattle.ga_text.specs.Output.{TextHasPrefix, writer_with_ready_line}
 use Rattle.ga_text.specs.Image.{EndsWithEndLine, HasNoEndLine}
-use Rattle.ga_lab.specs.Machine.{State, initial_state}
+use Rattle.ga_lab.specs.Machine.{MachineState, initial_state}
 use Rattle.ga_display.specs.Texts.{image_fault_text}
-use Rattle.ga_console.specs.Session.{AnswerRelation, EndsSessionAtNoAnswer, ServesCommands, IsWholeOrPrefixOnWriteError}
+use Rattle.ga_console.specs.Session.{AnswerRelation, NeverAnswersAndEnds, ServesCommands, IsWholeOrPrefixOnWriteError}
 use Rattle.ga_console.specs.Replies.{IsBriefAnswer}
 use Rattle.ga_console.specs.declared.commands.CommandsEnd.{CommandsEnd}
 use Rattle.ga_console.specs.declared.commands.CommandsEnd.TheVariants as end
@@ -21,8 +21,8 @@ use Rattle.ga_console.specs.declared.run.Status.{Status}
 use Rattle.ga_console.specs.declared.run.Status.TheVariants.{Done, ImageRefused, StreamFault, NotFinished, CommandRefused}
 
 -- The image is what was read up to the first line `end`, or all of an input in which none was read, or all that is within the bound.
-abbrev pub IsImageOfInput : Text → Bytes → Bytes → Type 0
-IsImageOfInput image commands rest = EndsWithEndLine image
+abbrev pub IsImageBeforeCommands : Text → Bytes → Bytes → Type 0
+IsImageBeforeCommands image commands rest = EndsWithEndLine image
     ⊎ ((commands ≡ []) × (rest ≡ []) × HasNoEndLine image)
     ⊎ ((length image ≡ input_limit) × HasNoEndLine image)
 
@@ -34,17 +34,17 @@ ReadsOnlyImage image ahead rest = (EndsWithEndLine image × (length ahead < inpu
     ⊎ ((length image ≡ input_limit) × (length ahead ≡ 1) × HasNoEndLine image)
 
 -- the image was accepted, and the commands after it were served to this ending
-pub record IsServedSession {M : Type 0} (A R : AnswerRelation M) (begin : State → M) (limit : ℕ) (read rest : Bytes) (text : Text) (ending : Result CommandsEnd WriteError) : Type 0 where
+pub record IsServedSession {M : Type 0} (A R : AnswerRelation M) (begin : MachineState → M) (limit : ℕ) (read rest : Bytes) (text : Text) (ending : Result CommandsEnd WriteError) : Type 0 where
   pub image : Text
   pub commands : Bytes
   pub chip : List NodeState
   pub said : Text
   pub splits : read ≡ image ++ commands
-  pub part : IsImageOfInput image commands rest
-  pub accepted : IsImage (lines_of image) chip
+  pub part : IsImageBeforeCommands image commands rest
+  pub accepted : IsImage (lines_of_text image) chip
   pub last : M
-  pub serves : ServesCommands A R (input_limit - length image) (begin (initial_state (records_of chip) limit)) commands rest said last ending
-  pub written : IsWholeOrPrefixOnWriteError ending (ready ++ said) text
+  pub serves : ServesCommands A R (input_limit - length image) (begin (initial_state (records_of_chip chip) limit)) commands rest said last ending
+  pub written : IsWholeOrPrefixOnWriteError ending (writer_with_ready_line ++ said) text
 
 -- the image was refused with its first fault, and nothing was read after it
 pub record IsFaultyImageInput (read rest : Bytes) (fault : ImageFault) : Type 0 where
@@ -52,38 +52,38 @@ pub record IsFaultyImageInput (read rest : Bytes) (fault : ImageFault) : Type 0 
   pub ahead : Bytes
   pub splits : read ≡ image ++ ahead
   pub part : ReadsOnlyImage image ahead rest
-  pub faulty : IsFirstFault (lines_of image) fault
+  pub faulty : IsFirstImageFault (lines_of_text image) fault
 
 -- the image was refused, with its first fault or for want of memory
 abbrev pub Refused : Bytes → Bytes → ImageFault → Type 0
-Refused read rest fault = (fault ≡ memory_fault) ⊎ IsFaultyImageInput read rest fault
+Refused read rest fault = (fault ≡ out_of_memory_fault) ⊎ IsFaultyImageInput read rest fault
 
 abbrev pub status_of_commands_end : Result CommandsEnd WriteError → Status
-status_of_commands_end (Ok end.Ended) = Done
+status_of_commands_end (Ok end.InputEnded) = Done
 status_of_commands_end (Ok end.Quit) = Done
 status_of_commands_end (Ok (end.Refused number)) = CommandRefused
-status_of_commands_end (Ok (end.Past number)) = StreamFault
+status_of_commands_end (Ok (end.PastLimit number)) = StreamFault
 status_of_commands_end (Ok end.ReadFailed) = StreamFault
 status_of_commands_end (Err failed) = StreamFault
 
 -- What a session may have written, where read was read of its input and rest is left of it.
-abbrev pub WritesSessionBy : {M : Type 0} → AnswerRelation M → AnswerRelation M → (State → M) → ℕ → Bytes → Bytes → Text → Status → Type 0
-WritesSessionBy A R begin limit read rest text Done = (ending : Result CommandsEnd WriteError) × (status_of_commands_end ending ≡ Done) × IsServedSession A R begin limit read rest text ending
-WritesSessionBy A R begin limit read rest text ImageRefused = (fault : ImageFault) × Refused read rest fault × (text ≡ image_fault_text fault)
+abbrev pub WritesSessionOfResponder : {M : Type 0} → AnswerRelation M → AnswerRelation M → (MachineState → M) → ℕ → Bytes → Bytes → Text → Status → Type 0
+WritesSessionOfResponder A R begin limit read rest text Done = (ending : Result CommandsEnd WriteError) × (status_of_commands_end ending ≡ Done) × IsServedSession A R begin limit read rest text ending
+WritesSessionOfResponder A R begin limit read rest text ImageRefused = (fault : ImageFault) × Refused read rest fault × (text ≡ image_fault_text fault)
 -- the command part failed, or a read in the image part, or a write of the refusal
-WritesSessionBy A R begin limit read rest text StreamFault =
+WritesSessionOfResponder A R begin limit read rest text StreamFault =
     ((ending : Result CommandsEnd WriteError)
     × (status_of_commands_end ending ≡ StreamFault)
     × IsServedSession A R begin limit read rest text ending)
     ⊎ ((text ≡ []) × HasNoEndLine read)
     ⊎ ((fault : ImageFault) × Refused read rest fault × TextHasPrefix (image_fault_text fault) text)
-WritesSessionBy A R begin limit read rest text NotFinished = ⊥
-WritesSessionBy A R begin limit read rest text CommandRefused =
+WritesSessionOfResponder A R begin limit read rest text NotFinished = ⊥
+WritesSessionOfResponder A R begin limit read rest text CommandRefused =
     (ending : Result CommandsEnd WriteError) × (status_of_commands_end ending ≡ CommandRefused) × IsServedSession A R begin limit read rest text ending
 
 -- The debugger's session.
 abbrev pub WritesSession : ℕ → Bytes → Bytes → Text → Status → Type 0
-WritesSession limit read rest text status = WritesSessionBy IsBriefAnswer EndsSessionAtNoAnswer (λ s. s) limit read rest text status
+WritesSession limit read rest text status = WritesSessionOfResponder IsBriefAnswer NeverAnswersAndEnds (λ s. s) limit read rest text status
 
 -- a refusal was written whole, or that failed
 abbrev pub WritesImageRefusal : ImageFault → Text → Status → Type 0
@@ -94,9 +94,9 @@ WritesImageRefusal fault text NotFinished = ⊥
 WritesImageRefusal fault text CommandRefused = ⊥
 
 -- an image was accepted, and the machine has its chip as its load
-abbrev pub IsOpenedOnImage : Text → ℕ → State → Type 0
-IsOpenedOnImage image limit machine = (chip : List NodeState) × IsImage (lines_of image) chip × (machine ≡ initial_state (records_of chip) limit)
+abbrev pub IsOpenedOnImage : Text → ℕ → MachineState → Type 0
+IsOpenedOnImage image limit machine = (chip : List NodeState) × IsImage (lines_of_text image) chip × (machine ≡ initial_state (records_of_chip chip) limit)
 
 -- an image is refused with its first fault, or for want of memory
 abbrev pub IsFaultOfImage : Text → ImageFault → Type 0
-IsFaultOfImage image fault = (fault ≡ memory_fault) ⊎ IsFirstFault (lines_of image) fault
+IsFaultOfImage image fault = (fault ≡ out_of_memory_fault) ⊎ IsFirstImageFault (lines_of_text image) fault

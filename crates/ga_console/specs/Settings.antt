@@ -3,17 +3,17 @@ use Rattle.std.specs.Prelude.{ℕ, ◌≤◌, IfSome}
 use Rattle.ga_console.specs.declared.settings.Settings.{Settings}
 use Rattle.ga_console.specs.declared.settings.Settings.TheVariants.{Debug, Explore, Race, Check, Dap, Assemble, List, Disassemble, Draw}
 
-abbrev pub IsBetween : ℕ → ℕ → ℕ → Type 0
-IsBetween least greatest n = (least ≤ n) × (n ≤ greatest)
+abbrev pub IsNumberBetween : ℕ → ℕ → ℕ → Type 0
+IsNumberBetween least greatest n = (least ≤ n) × (n ≤ greatest)
 
 -- each number is in its range
 abbrev pub AreSettingsInRange : Settings → Type 0
-AreSettingsInRange (Debug limit) = IsBetween 1 4000000 limit
-AreSettingsInRange (Explore limit strict json chip file) = IsBetween 1 100000000 limit
-AreSettingsInRange (Race workers calls limit) = IsBetween 1 16 workers × IsBetween 1 100000 calls × IsBetween 1 4000000 limit
-AreSettingsInRange (Check most seconds settled session never ends same json progress files) = IsBetween 1 4294967295 most × IfSome seconds (IsBetween 1 4294967295) × IfSome session (IsBetween 1 4294967295)
+AreSettingsInRange (Debug limit) = IsNumberBetween 1 4000000 limit
+AreSettingsInRange (Explore limit strict json chip file) = IsNumberBetween 1 100000000 limit
+AreSettingsInRange (Race workers calls limit) = IsNumberBetween 1 16 workers × IsNumberBetween 1 100000 calls × IsNumberBetween 1 4000000 limit
+AreSettingsInRange (Check most seconds settled session never ends same json progress files) = IsNumberBetween 1 4294967295 most × IfSome seconds (IsNumberBetween 1 4294967295) × IfSome session (IsNumberBetween 1 4294967295)
 AreSettingsInRange Dap = Unit {0}
 AreSettingsInRange (Assemble json file) = Unit {0}
 AreSettingsInRange (List file) = Unit {0}
 AreSettingsInRange (Disassemble file) = Unit {0}
-AreSettingsInRange (Draw limit cause rewind from to all only fold races chip file) = IsBetween 1 100000000 limit × IsBetween 1 4294967295 from × IsBetween 1 4294967295 to
+AreSettingsInRange (Draw limit cause rewind from to all only fold races chip file) = IsNumberBetween 1 100000000 limit × IsNumberBetween 1 4294967295 from × IsNumberBetween 1 4294967295 to

@@ -3,7 +3,7 @@ ghost use Rattle.ga_event.specs.Told.{count_steps};
 ghost use Rattle.ga_text.specs.Output.{WritesSomeText, WritesExactly};
 ghost use Rattle.ga_display.specs.Texts.{worded_step_refusal_text};
 ghost use Rattle.ga_console.specs.Replies.{IsCommandReply};
-ghost use Rattle.ga_console.specs.declared.command.Command.TheVariants.{Step, Back, Rewind};
+ghost use Rattle.ga_console.specs.declared.command.DebuggerCommand.TheVariants.{Step, Back, Rewind};
 
 use ga_display::{RefusalWording, write_event, write_removed_events};
 use ga_grid::NodeId;
@@ -13,7 +13,7 @@ use std::io::Write;
 
 /// `step NNN`: makes the node's next event.
 #[inline(always)]
-pub fn step<W: Write>(
+pub fn write_step_reply<W: Write>(
     lab: &mut Lab,
     node: NodeId,
     wording: RefusalWording,
@@ -24,12 +24,12 @@ pub fn step<W: Write>(
 {
     match lab.step_inlined(node) {
         Ok(made) => { write_event(writer, made) }
-        Err(fault) => writer.write_text(wording.refusal(fault)),
+        Err(fault) => writer.write_text(wording.refusal_in_wording(fault)),
     }
 }
 
 /// `back`: takes the newest event back.
-pub fn back<W: Write>(
+pub fn write_back_reply<W: Write>(
     lab: &mut Lab,
     wording: RefusalWording,
     writer: &mut Writer<'_, W>,
@@ -39,12 +39,12 @@ pub fn back<W: Write>(
 {
     match lab.undo() {
         Ok(()) => { write_removed_events(writer, 1, lab.counts().kept) }
-        Err(fault) => writer.write_text(wording.refusal(fault)),
+        Err(fault) => writer.write_text(wording.refusal_in_wording(fault)),
     }
 }
 
 /// `rewind NNN K`: takes a step of the node back, with all that depends on it.
-pub fn rewind<W: Write>(
+pub fn write_rewind_reply<W: Write>(
     lab: &mut Lab,
     node: NodeId,
     step: u32,

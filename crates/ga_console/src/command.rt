@@ -3,9 +3,9 @@
 ghost use Rattle.std.specs.Prelude.{◌≡◌, false, IfSome, IfNone, option_map};
 ghost use Rattle.ga_console.specs.Commands.{SpellsCommand};
 ghost use Rattle.ga_text.specs.Parsing.{split_at_space, parse_node, parse_number};
-ghost use Rattle.ga_console.specs.inner.Parsing.{step_in, rewind_in, memory_in, why_in, alone, with_arguments, is_head};
-ghost use Rattle.ga_console.specs.declared.command.Command.{Command};
-ghost use Rattle.ga_console.specs.declared.command.Command.TheVariants.{Step, Node, Trace};
+ghost use Rattle.ga_console.specs.inner.Parsing.{parse_step_arguments, parse_rewind_arguments, parse_memory_arguments, parse_why_arguments, command_without_arguments, debugger_command_with_arguments, is_command_first_four_bytes};
+ghost use Rattle.ga_console.specs.declared.command.DebuggerCommand.{DebuggerCommand};
+ghost use Rattle.ga_console.specs.declared.command.DebuggerCommand.TheVariants.{Step, Node, Trace};
 
 use super::fast_path::{node_ahead, word_of};
 use ga_grid::NodeId;
@@ -21,7 +21,7 @@ macro_rules! by_name {
 
 /// A command of a session. Steps are numbered from 1, but any number may be asked for.
 #[derive(Clone, Copy, PartialEq, Eq)]
-pub enum Command {
+pub enum DebuggerCommand {
     /// `step NNN`: makes the node's next event.
     Step(NodeId),
     /// `back`: takes the newest event back.
@@ -56,10 +56,10 @@ const MEMORY: u64 = 0x206d_656d;
 
 /// The command that a line spells, or none.
 #[inline(always)]
-pub fn parse_debugger_command(line: &[u8]) -> Option<Command>
+pub fn parse_debugger_command(line: &[u8]) -> Option<DebuggerCommand>
     ensures some { IfSome result (λ command. SpellsCommand command line.now) }
-    ensures only { IfSome result (λ command. (other : Command) → SpellsCommand other line.now → other ≡ command) }
-    ensures none { IfNone result ((command : Command) → ¬ SpellsCommand command line.now) }
+    ensures only { IfSome result (λ command. (other : DebuggerCommand) → SpellsCommand other line.now → other ≡ command) }
+    ensures none { IfNone result ((command : DebuggerCommand) → ¬ SpellsCommand command line.now) }
 {
     if has_head(line) { told_by(line) } else { None }
 }
@@ -68,18 +68,18 @@ pub fn parse_debugger_command(line: &[u8]) -> Option<Command>
 #[inline(always)]
 #[tactic(auto, using(crate::proofs::Heads::spelled_head))]
 fn has_head(line: &[u8]) -> bool
-    ensures { result ≡ false → (command : Command) → ¬ SpellsCommand command line.now }
+    ensures { result ≡ false → (command : DebuggerCommand) → ¬ SpellsCommand command line.now }
 {
     if line.len() < 4 {
         return false;
     }
-    is_head(word_of(line[0], line[1], line[2], line[3]))
+    is_command_first_four_bytes(word_of(line[0], line[1], line[2], line[3]))
 }
 
 /// Whether four bytes in one number are the first of a command.
 #[inline(always)]
-fn is_head(word: u64) -> bool
-    ensures { result ≡ is_head word }
+fn is_command_first_four_bytes(word: u64) -> bool
+    ensures { result ≡ is_command_first_four_bytes word }
 {
     word == 0x7065_7473
         || word == 0x6b63_6162
@@ -95,10 +95,10 @@ fn is_head(word: u64) -> bool
 
 /// The command of a line, whatever it begins with. A `node` or a `mem` is recognized without searching for its words.
 #[tactic(auto, using(crate::proofs::Spelled::told_only, crate::proofs::Spelled::spelled_read))]
-fn told_by(line: &[u8]) -> Option<Command>
+fn told_by(line: &[u8]) -> Option<DebuggerCommand>
     ensures some { IfSome result (λ command. SpellsCommand command line.now) }
-    ensures only { IfSome result (λ command. (other : Command) → SpellsCommand other line.now → other ≡ command) }
-    ensures none { IfNone result ((command : Command) → ¬ SpellsCommand command line.now) }
+    ensures only { IfSome result (λ command. (other : DebuggerCommand) → SpellsCommand other line.now → other ≡ command) }
+    ensures none { IfNone result ((command : DebuggerCommand) → ¬ SpellsCommand command line.now) }
 {
     match shown_by(line) {
         Some(command) => Some(command),
@@ -108,11 +108,11 @@ fn told_by(line: &[u8]) -> Option<Command>
 
 /// The `node` or `mem` that a line spells.
 #[inline(always)]
-fn shown_by(line: &[u8]) -> Option<Command>
+fn shown_by(line: &[u8]) -> Option<DebuggerCommand>
     ensures { IfSome result (λ command. SpellsCommand command line.now) }
 {
     match node_shown(line) {
-        Some(node) => Some(Command::Node(node)),
+        Some(node) => Some(DebuggerCommand::Node(node)),
         None => memory_shown(line),
     }
 }
@@ -136,7 +136,7 @@ fn node_shown(line: &[u8]) -> Option<NodeId>
 /// The `mem` that a line spells.
 #[inline(always)]
 #[tactic(auto, using(crate::proofs::AheadLemmas::same_bytes, crate::proofs::AheadLemmas::memory_line))]
-fn memory_shown(line: &[u8]) -> Option<Command>
+fn memory_shown(line: &[u8]) -> Option<DebuggerCommand>
     ensures { IfSome result (λ command. SpellsCommand command line.now) }
 {
     let [m, e, s, space, row, tens, ones, b' ', high, low] = line else {
@@ -147,39 +147,39 @@ fn memory_shown(line: &[u8]) -> Option<Command>
     }
     let node = node_ahead(*row, *tens, *ones, b'\n')?;
     let address = parse_hex_byte(&[*high, *low])?;
-    Some(Command::Memory(node, address))
+    Some(DebuggerCommand::Memory(node, address))
 }
 
 /// The command that a line spells, by the words of the line.
-fn spelled_by(line: &[u8]) -> Option<Command>
+fn spelled_by(line: &[u8]) -> Option<DebuggerCommand>
     ensures some { IfSome result (λ command. SpellsCommand command line.now) }
-    ensures only { IfSome result (λ command. (other : Command) → SpellsCommand other line.now → other ≡ command) }
-    ensures none { IfNone result ((command : Command) → ¬ SpellsCommand command line.now) }
+    ensures only { IfSome result (λ command. (other : DebuggerCommand) → SpellsCommand other line.now → other ≡ command) }
+    ensures none { IfNone result ((command : DebuggerCommand) → ¬ SpellsCommand command line.now) }
 {
     match split_at_space(line) {
-        Some((name, arguments)) => with_arguments(name, arguments),
+        Some((name, arguments)) => debugger_command_with_arguments(name, arguments),
         None => alone(line),
     }
 }
 
 /// The command that is spelled by one word.
-#[tactic(auto, unfolding(crate::specs::inner::Parsing::alone))]
-fn alone(name: &[u8]) -> Option<Command>
-    ensures { result ≡ alone name.now }
+#[tactic(auto, unfolding(crate::specs::inner::Parsing::command_without_arguments))]
+fn alone(name: &[u8]) -> Option<DebuggerCommand>
+    ensures { result ≡ command_without_arguments name.now }
 {
     match name {
-        b"back" => Some(Command::Back),
-        b"count" => Some(Command::Count),
-        b"dump" => Some(Command::Dump),
-        b"quit" => Some(Command::Quit),
+        b"back" => Some(DebuggerCommand::Back),
+        b"count" => Some(DebuggerCommand::Count),
+        b"dump" => Some(DebuggerCommand::Dump),
+        b"quit" => Some(DebuggerCommand::Quit),
         _ => None,
     }
 }
 
 /// The command of a word and what follows the space after it.
-#[tactic(auto, unfolding(crate::specs::inner::Parsing::with_arguments))]
-fn with_arguments(name: &[u8], arguments: &[u8]) -> Option<Command>
-    ensures { result ≡ with_arguments name.now arguments.now }
+#[tactic(auto, unfolding(crate::specs::inner::Parsing::debugger_command_with_arguments))]
+fn debugger_command_with_arguments(name: &[u8], arguments: &[u8]) -> Option<DebuggerCommand>
+    ensures { result ≡ debugger_command_with_arguments name.now arguments.now }
 {
     by_name!(name;
         b"step" => step_command(arguments),
@@ -191,50 +191,50 @@ fn with_arguments(name: &[u8], arguments: &[u8]) -> Option<Command>
     )
 }
 
-fn step_command(arguments: &[u8]) -> Option<Command>
+fn step_command(arguments: &[u8]) -> Option<DebuggerCommand>
     ensures { result ≡ option_map Step (parse_node arguments.now) }
 {
-    Some(Command::Step(parse_node(arguments)?))
+    Some(DebuggerCommand::Step(parse_node(arguments)?))
 }
 
-fn node_command(arguments: &[u8]) -> Option<Command>
+fn node_command(arguments: &[u8]) -> Option<DebuggerCommand>
     ensures { result ≡ option_map Node (parse_node arguments.now) }
 {
-    Some(Command::Node(parse_node(arguments)?))
+    Some(DebuggerCommand::Node(parse_node(arguments)?))
 }
 
-fn trace_command(arguments: &[u8]) -> Option<Command>
+fn trace_command(arguments: &[u8]) -> Option<DebuggerCommand>
     ensures { result ≡ option_map Trace (parse_node arguments.now) }
 {
-    Some(Command::Trace(parse_node(arguments)?))
+    Some(DebuggerCommand::Trace(parse_node(arguments)?))
 }
 
-#[tactic(auto, unfolding(crate::specs::inner::Parsing::rewind_in))]
-fn rewind_of(arguments: &[u8]) -> Option<Command>
-    ensures { result ≡ rewind_in arguments.now }
+#[tactic(auto, unfolding(crate::specs::inner::Parsing::parse_rewind_arguments))]
+fn rewind_of(arguments: &[u8]) -> Option<DebuggerCommand>
+    ensures { result ≡ parse_rewind_arguments arguments.now }
 {
     let (node, step) = step_of(arguments)?;
-    Some(Command::Rewind(node, step))
+    Some(DebuggerCommand::Rewind(node, step))
 }
 
-#[tactic(auto, unfolding(crate::specs::inner::Parsing::memory_in))]
-fn memory_of(arguments: &[u8]) -> Option<Command>
-    ensures { result ≡ memory_in arguments.now }
+#[tactic(auto, unfolding(crate::specs::inner::Parsing::parse_memory_arguments))]
+fn memory_of(arguments: &[u8]) -> Option<DebuggerCommand>
+    ensures { result ≡ parse_memory_arguments arguments.now }
 {
     let (node, address) = split_at_space(arguments)?;
-    Some(Command::Memory(parse_node(node)?, parse_hex_byte(address)?))
+    Some(DebuggerCommand::Memory(parse_node(node)?, parse_hex_byte(address)?))
 }
 
-#[tactic(auto, unfolding(crate::specs::inner::Parsing::why_in))]
-fn why_of(arguments: &[u8]) -> Option<Command>
-    ensures { result ≡ why_in arguments.now }
+#[tactic(auto, unfolding(crate::specs::inner::Parsing::parse_why_arguments))]
+fn why_of(arguments: &[u8]) -> Option<DebuggerCommand>
+    ensures { result ≡ parse_why_arguments arguments.now }
 {
     let (from, rest) = split_at_space(arguments)?;
     let (from_step, rest) = split_at_space(rest)?;
     let from = parse_node(from)?;
     let from_step = parse_number(from_step)?;
     let (to, to_step) = step_of(rest)?;
-    Some(Command::Why {
+    Some(DebuggerCommand::Why {
         from,
         from_step,
         to,
@@ -243,9 +243,9 @@ fn why_of(arguments: &[u8]) -> Option<Command>
 }
 
 /// A node and the number of a step.
-#[tactic(auto, unfolding(crate::specs::inner::Parsing::step_in))]
+#[tactic(auto, unfolding(crate::specs::inner::Parsing::parse_step_arguments))]
 fn step_of(text: &[u8]) -> Option<(NodeId, u32)>
-    ensures { result ≡ step_in text.now }
+    ensures { result ≡ parse_step_arguments text.now }
 {
     let (node, step) = split_at_space(text)?;
     Some((parse_node(node)?, parse_number(step)?))

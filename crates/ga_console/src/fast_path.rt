@@ -1,12 +1,12 @@
 //! A line that was read whole, recognized in place.
 ghost use Rattle.std.specs.Prelude.{◌≡◌, ◌+◌, ◌*◌, [], ◌∷◌, ◌++◌, IfSome, codes, take};
 ghost use Rattle.ga_text.specs.Digits.{name_of_node};
-ghost use Rattle.ga_console.specs.inner.Run.{IsAhead, IsLineAhead, IsNumberAhead, StandsAhead};
+ghost use Rattle.ga_console.specs.inner.Run.{IsCommandAhead, IsLineAhead, IsNumberAhead, HasCommandAtTextStart};
 
-use super::command::{Command, parse_debugger_command};
+use super::command::{DebuggerCommand, parse_debugger_command};
 use ga_grid::NodeId;
-use ga_image::LINE_LIMIT;
-use ga_text::{MAX_NUMBER_DIGITS, find_line_feed, node_name_text, parse_number};
+use ga_image::MAX_IMAGE_LINE_BYTES;
+use ga_text::{MAX_NUMBER_DIGITS, find_line_feed, node_name_and_space, parse_number};
 
 /// The bytes of a line `step NNN`.
 const STEP_LINE: usize = b"step NNN".len();
@@ -56,7 +56,7 @@ pub(crate) fn node_ahead(row: u8, tens: u8, ones: u8, feed: u8) -> Option<NodeId
 {
     let word = word_of(row, tens, ones, feed);
     let guess = ((word + NO_DIGITS) * WEIGHTS / 0x100_0000 % 0x100) as u8;
-    let [first, second, third, space] = node_name_text(guess);
+    let [first, second, third, space] = node_name_and_space(guess);
     if word_of(first, second, third, space) == word + SPACE_FOR_FEED {
         Some(NodeId::new(guess))
     } else {
@@ -66,13 +66,13 @@ pub(crate) fn node_ahead(row: u8, tens: u8, ones: u8, feed: u8) -> Option<NodeId
 
 /// What a text begins with.
 #[derive(Clone, Copy)]
-pub enum PrefixCommand {
+pub enum CommandAtTextStart {
     /// A line that spells a command, and how many bytes it has before its line feed. The command isn't `quit`.
-    Spelled(Command, usize),
+    SpelledCommand(DebuggerCommand, usize),
     /// Another line that isn't too long.
-    Other(usize),
+    OtherWholeLine(usize),
     /// No whole line, or one that is too long.
-    Nothing,
+    NoWholeLine,
 }
 
 /// The number that a text begins with, if a line feed follows it, and how many digits it has.
@@ -90,23 +90,23 @@ fn number_ahead(text: &[u8]) -> Option<(u32, usize)>
 
 /// The `rewind` that the line in front of a text spells, and how many bytes the line has.
 #[inline(always)]
-fn rewind_ahead(text: &[u8]) -> Option<(Command, usize)>
+fn rewind_ahead(text: &[u8]) -> Option<(DebuggerCommand, usize)>
     requires { take 6 text.now ≡ codes "rewind" }
-    ensures { IfSome result (λ told. IsAhead text.now told.0 told.1) }
+    ensures { IfSome result (λ told. IsCommandAhead text.now told.0 told.1) }
 {
     let [_, _, _, _, _, _, b' ', row, tens, ones, b' ', ..] = text else {
         return None;
     };
     let node = node_ahead(*row, *tens, *ones, b'\n')?;
     let (step, digits) = number_ahead(&text[REWIND_HEAD..])?;
-    Some((Command::Rewind(node, step), REWIND_HEAD + digits))
+    Some((DebuggerCommand::Rewind(node, step), REWIND_HEAD + digits))
 }
 
 /// The `rewind` or `count` that the line in front of a text spells, and how many bytes it has. The second byte to the fifth tell which.
 #[inline(always)]
 #[tactic(auto, using(crate::proofs::AheadLemmas::count_front, crate::proofs::AheadLemmas::six_are))]
-fn soon_ahead(text: &[u8]) -> Option<(Command, usize)>
-    ensures { IfSome result (λ told. IsAhead text.now told.0 told.1) }
+fn soon_ahead(text: &[u8]) -> Option<(DebuggerCommand, usize)>
+    ensures { IfSome result (λ told. IsCommandAhead text.now told.0 told.1) }
 {
     let [first, second, third, fourth, fifth, sixth, ..] = text else {
         return None;
@@ -116,7 +116,7 @@ fn soon_ahead(text: &[u8]) -> Option<(Command, usize)>
         return rewind_ahead(text);
     }
     if word == OUNT && *first == b'c' && *sixth == b'\n' {
-        return Some((Command::Count, COUNT_LINE));
+        return Some((DebuggerCommand::Count, COUNT_LINE));
     }
     None
 }
@@ -124,13 +124,13 @@ fn soon_ahead(text: &[u8]) -> Option<(Command, usize)>
 /// What a text begins with. `step`, `back`, `count` and `rewind` are recognized before the line feed is searched.
 #[inline(always)]
 #[tactic(auto, using(crate::proofs::AheadLemmas::same_bytes, crate::proofs::AheadLemmas::step_front))]
-pub fn parse_prefix_command(text: &[u8]) -> PrefixCommand
-    ensures { StandsAhead text.now result }
+pub fn parse_command_at_text_start(text: &[u8]) -> CommandAtTextStart
+    ensures { HasCommandAtTextStart text.now result }
 {
     if let [s, t, e, p, b' ', row, tens, ones, feed, ..] = text {
         if word_of(*s, *t, *e, *p) == STEP {
             if let Some(node) = node_ahead(*row, *tens, *ones, *feed) {
-                return PrefixCommand::Spelled(Command::Step(node), STEP_LINE);
+                return CommandAtTextStart::SpelledCommand(DebuggerCommand::Step(node), STEP_LINE);
             }
         }
     }
@@ -139,13 +139,16 @@ pub fn parse_prefix_command(text: &[u8]) -> PrefixCommand
 
 /// What a text begins with that doesn't begin with a `step` of a node.
 #[inline(always)]
-fn other_ahead(text: &[u8]) -> PrefixCommand
-    ensures { StandsAhead text.now result }
+fn other_ahead(text: &[u8]) -> CommandAtTextStart
+    ensures { HasCommandAtTextStart text.now result }
 {
     match text {
-        [b'b', b'a', b'c', b'k', b'\n', ..] => PrefixCommand::Spelled(Command::Back, BACK_LINE),
+        [b'b', b'a', b'c', b'k', b'\n', ..] => CommandAtTextStart::SpelledCommand(
+            DebuggerCommand::Back,
+            BACK_LINE,
+        ),
         _ => match soon_ahead(text) {
-            Some(told) => PrefixCommand::Spelled(told.0, told.1),
+            Some(told) => CommandAtTextStart::SpelledCommand(told.0, told.1),
             None => line_ahead(text),
         },
     }
@@ -153,14 +156,14 @@ fn other_ahead(text: &[u8]) -> PrefixCommand
 
 /// What a text begins with, by searching the line feed.
 #[inline(always)]
-fn line_ahead(text: &[u8]) -> PrefixCommand
-    ensures { StandsAhead text.now result }
+fn line_ahead(text: &[u8]) -> CommandAtTextStart
+    ensures { HasCommandAtTextStart text.now result }
 {
     match find_line_feed(text) {
-        None => PrefixCommand::Nothing,
+        None => CommandAtTextStart::NoWholeLine,
         Some(count) => {
-            if count > LINE_LIMIT {
-                PrefixCommand::Nothing
+            if count > MAX_IMAGE_LINE_BYTES {
+                CommandAtTextStart::NoWholeLine
             } else {
                 told_ahead(text, count)
             }
@@ -171,15 +174,15 @@ fn line_ahead(text: &[u8]) -> PrefixCommand
 /// What a text begins with, if the line has `count` bytes.
 #[inline(always)]
 #[tactic(auto, using(crate::proofs::AheadLemmas::line_front))]
-fn told_ahead(text: &[u8], count: usize) -> PrefixCommand
+fn told_ahead(text: &[u8], count: usize) -> CommandAtTextStart
     requires { IsLineAhead text.now count }
-    ensures { StandsAhead text.now result }
+    ensures { HasCommandAtTextStart text.now result }
 {
     match parse_debugger_command(&text[..count]) {
-        None => PrefixCommand::Other(count),
+        None => CommandAtTextStart::OtherWholeLine(count),
         Some(command) => match command {
-            Command::Quit => PrefixCommand::Other(count),
-            _ => PrefixCommand::Spelled(command, count),
+            DebuggerCommand::Quit => CommandAtTextStart::OtherWholeLine(count),
+            _ => CommandAtTextStart::SpelledCommand(command, count),
         },
     }
 }

@@ -14,12 +14,12 @@ mod run;
 mod settings;
 mod step_selector;
 
-pub use command::{Command, parse_debugger_command};
-pub use commands::{CommandsEnd, serve_commands, serve_commands_by};
-pub use race::race_report;
-pub use responder::{LineAction, Responder, answer_in_wording, execute_in_wording};
+pub use command::{DebuggerCommand, parse_debugger_command};
+pub use commands::{CommandsEnd, serve_commands, serve_commands_with_limit_refusal};
+pub use race::write_worker_race_report;
+pub use responder::{LineAction, Responder, answer_line_in_wording, execute_command_in_wording};
 pub use run::{
-    Status, open_image, session, session_with_responder, status_of_commands_end,
+    Status, open_lab_from_image, session, session_with_responder, status_of_commands_end,
     write_image_refusal,
 };
 pub use settings::{CommandLineFault, Settings, parse_command_line};

@@ -1,16 +1,16 @@
 //! A race of workers on the chip of an image.
 ghost use Rattle.ga_text.specs.Output.{WritesText, ReadsAndWrites};
 ghost use Rattle.std.specs.Prelude.{◌≡◌, ◌<◌, ◌≤◌, ◌*◌, ℕ, map, length, Some, IfOk, IfSome, All, vec_len, slice_get};
-ghost use Rattle.ga_grid.specs.Chip.{records_of};
-ghost use Rattle.ga_console.specs.Race.{worker_calls, race_report_text, IsRaceOfWorkers, WritesRaceReport};
-ghost use Rattle.ga_console.specs.inner.Run.{Races, Writes};
+ghost use Rattle.ga_grid.specs.Chip.{records_of_chip};
+ghost use Rattle.ga_console.specs.Race.{worker_calls, worker_race_report_text, IsRaceOfWorkers, WritesWorkerRaceReport};
+ghost use Rattle.ga_console.specs.inner.Run.{WritesWorkerRaceAfterImage, WritesTextWithStatus};
 
 use super::run::{Status, write_image_refusal};
 use ga_grid::{Chip, NodeId};
-use ga_image::{ImageCause, parse};
-use ga_shared::{Call, ClosedLab, OpenGate, race};
+use ga_image::{ImageFaultCause, parse};
+use ga_shared::{Call, NoEffectCallHooks, UnsharedLab, race};
 use ga_text::{
-    TextBuffer, WholeRead, WriteError, push_number, push_text, read_whole_input, write_all,
+    TextBuffer, WholeInputResult, WriteError, push_number, push_text, read_whole_input, write_all,
 };
 use std::alloc::{AllocError, Global};
 use std::io::{Read, Write};
@@ -19,7 +19,7 @@ use std::thread::Threads;
 
 /// Reads an image up to its first line `end`, lets each of 1 to 16 workers make `calls` steps of the node with its number, each
 /// on a thread of its own, and writes how many calls and events were made and how many are kept, of at most `limit`.
-pub fn race_report<T: Threads + Wait + Sync, R: Read, W: Write>(
+pub fn write_worker_race_report<T: Threads + Wait + Sync, R: Read, W: Write>(
     rt: &T,
     alloc: Global,
     reader: &mut R,
@@ -30,15 +30,19 @@ pub fn race_report<T: Threads + Wait + Sync, R: Read, W: Write>(
 ) -> Status
     requires { (1 ≤ workers) × (workers ≤ 16) }
     // Where the streams tell their bytes: what was read, and what was written for it by the status.
-    ensures { ReadsAndWrites (λ read rest text. WritesRaceReport limit workers calls read rest text result)
+    ensures { ReadsAndWrites (λ read rest text. WritesWorkerRaceReport limit workers calls read rest text result)
         (R.remaining reader.old) (R.remaining reader.new) (W.contents writer.old) (W.contents writer.new) }
 {
     match read_whole_input(alloc, reader) {
-        WholeRead::Whole(image) => run_image(rt, alloc, writer, image, workers, calls, limit),
+        WholeInputResult::Whole(image) => run_image(
+            rt, alloc, writer, image, workers, calls, limit,
+        ),
         // No image that is accepted is so long.
-        WholeRead::TooLong(image) => run_image(rt, alloc, writer, image, workers, calls, limit),
-        WholeRead::ReadFailed => Status::StreamFault,
-        WholeRead::NoMemory => Status::NotFinished,
+        WholeInputResult::TooLong(image) => run_image(
+            rt, alloc, writer, image, workers, calls, limit,
+        ),
+        WholeInputResult::ReadFailed => Status::StreamFault,
+        WholeInputResult::NoMemory => Status::NotFinished,
     }
 }
 
@@ -53,7 +57,7 @@ fn run_image<T: Threads + Wait + Sync, W: Write>(
     limit: u32,
 ) -> Status
     requires { (1 ≤ workers) × (workers ≤ 16) }
-    ensures { WritesText (λ text. Races limit workers calls image.items text result) (W.contents writer.old) (W.contents writer.new) }
+    ensures { WritesText (λ text. WritesWorkerRaceAfterImage limit workers calls image.items text result) (W.contents writer.old) (W.contents writer.new) }
 {
     match parse(alloc, image.as_slice()) {
         Ok(chip) => match race_on(rt, alloc, chip, workers, calls, limit) {
@@ -61,7 +65,7 @@ fn run_image<T: Threads + Wait + Sync, W: Write>(
             None => Status::NotFinished,
         },
         Err(fault) => {
-            if fault.cause == ImageCause::Memory {
+            if fault.cause == ImageFaultCause::Memory {
                 return Status::NotFinished;
             }
             write_image_refusal(writer, fault)
@@ -77,15 +81,15 @@ fn race_on<T: Threads + Wait + Sync>(
     workers: u32,
     calls: u32,
     limit: u32,
-) -> Option<ClosedLab>
+) -> Option<UnsharedLab>
     requires { (1 ≤ workers) × (workers ≤ 16) }
     ensures { IfSome result (λ closed. (length closed.log.items ≡ workers * calls)
-        × IsRaceOfWorkers (records_of chip) limit workers calls closed.lab) }
+        × IsRaceOfWorkers (records_of_chip chip) limit workers calls closed.lab) }
 {
     let Ok(lists) = lists_of(alloc, workers, calls) else {
         return None;
     };
-    match race(rt, alloc, chip, limit, lists, &OpenGate) {
+    match race(rt, alloc, chip, limit, lists, &NoEffectCallHooks) {
         Ok(closed) => Some(closed),
         Err(_) => None,
     }
@@ -121,8 +125,8 @@ fn list_of(alloc: Global, worker: u32, calls: u32) -> Result<Vec<Call>, AllocErr
 }
 
 /// Writes the three lines of a race.
-fn report<W: Write>(writer: &mut W, closed: &ClosedLab) -> Status
-    ensures { WritesText (λ text. Writes (race_report_text (length closed.now.log.items) closed.now.lab.made (length closed.now.lab.kept)) text result)
+fn report<W: Write>(writer: &mut W, closed: &UnsharedLab) -> Status
+    ensures { WritesText (λ text. WritesTextWithStatus (worker_race_report_text (length closed.now.log.items) closed.now.lab.made (length closed.now.lab.kept)) text result)
         (W.contents writer.old) (W.contents writer.new) }
 {
     let mut text = TextBuffer::new();
@@ -134,9 +138,9 @@ fn report<W: Write>(writer: &mut W, closed: &ClosedLab) -> Status
 }
 
 /// Puts the three lines of a race.
-fn put_report(out: &mut TextBuffer, closed: &ClosedLab)
+fn put_report(out: &mut TextBuffer, closed: &UnsharedLab)
     ensures { out.new.items
-        ≡ race_report_text (length closed.now.log.items) closed.now.lab.made (length closed.now.lab.kept) }
+        ≡ worker_race_report_text (length closed.now.log.items) closed.now.lab.made (length closed.now.lab.kept) }
 {
     let counts = closed.lab.counts();
     out.clear();

@@ -2,16 +2,19 @@
 ghost use Rattle.ga_text.specs.Output.{WritesSomeText};
 ghost use Rattle.std.specs.Prelude.{◌≡◌};
 ghost use Rattle.ga_text.specs.Lines.{Bytes};
-ghost use Rattle.ga_lab.specs.Machine.{State};
+ghost use Rattle.ga_lab.specs.Machine.{MachineState};
 ghost use Rattle.ga_console.specs.Replies.{IsAnswerInWording, IsCommandReply};
-ghost use Rattle.ga_console.specs.Session.{AnswersOrQuits, EndsSessionAtNoAnswer};
-ghost use Rattle.ga_console.specs.inner.Run.{AnswersOrEnds, ObeysCommand};
+ghost use Rattle.ga_console.specs.Session.{AnswersOrQuitsLine, NeverAnswersAndEnds};
+ghost use Rattle.ga_console.specs.inner.Run.{AnswersLineOrEnds, AnswersCommandOrEnds};
 
-use super::changes::{back, rewind, step};
-use super::command::{Command, parse_debugger_command};
-use super::readings::{count, dump, memory, node, trace, why};
+use super::changes::{write_back_reply, write_rewind_reply, write_step_reply};
+use super::command::{DebuggerCommand, parse_debugger_command};
+use super::readings::{
+    write_count_reply, write_dump_reply, write_memory_reply, write_node_reply, write_trace_reply,
+    write_why_reply,
+};
 use ga_display::RefusalWording;
-use ga_image::LINE_LIMIT;
+use ga_image::MAX_IMAGE_LINE_BYTES;
 use ga_lab::Lab;
 use ga_text::{WriteError, WriteResult, Writer};
 use std::alloc::Global;
@@ -34,10 +37,10 @@ pub trait Responder: Drop {
     ghost answers: { Self → Bytes → Bytes → Self → Type 0 };
 
     // The same, where the session ends, as the command was refused.
-    ghost refuses: { Self → Bytes → Bytes → Self → Type 0 } = { EndsSessionAtNoAnswer };
+    ghost refuses: { Self → Bytes → Bytes → Self → Type 0 } = { NeverAnswersAndEnds };
 
     // The session's machine on a lab that was opened.
-    ghost begin: { State → Self };
+    ghost begin: { MachineState → Self };
 
     /// Begins on a lab.
     fn open(lab: Lab) -> Self
@@ -53,19 +56,19 @@ pub trait Responder: Drop {
         line: &[u8],
         writer: &mut Writer<'_, W>,
     ) -> Result<LineAction, WriteError>
-        ensures { WritesSomeText result (AnswersOrEnds answers refuses self.old line.now self.new result) W.contents writer.old writer.new };
+        ensures { WritesSomeText result (AnswersLineOrEnds answers refuses self.old line.now self.new result) W.contents writer.old writer.new };
 
     /// Answers a line that spells a command of the debugger.
     ///
     /// # Errors
     /// A write failed.
-    fn obey<W: Write>(
+    fn obey_debugger_command<W: Write>(
         &mut self,
         alloc: Global,
-        command: Command,
+        command: DebuggerCommand,
         writer: &mut Writer<'_, W>,
     ) -> Result<LineAction, WriteError>
-        ensures { WritesSomeText result (ObeysCommand answers refuses self.old command self.new result) W.contents writer.old writer.new };
+        ensures { WritesSomeText result (AnswersCommandOrEnds answers refuses self.old command self.new result) W.contents writer.old writer.new };
 }
 
 impl Responder for Lab {
@@ -85,17 +88,17 @@ impl Responder for Lab {
         line: &[u8],
         writer: &mut Writer<'_, W>,
     ) -> Result<LineAction, WriteError> {
-        answer_in_wording(alloc, self, line, RefusalWording::Brief, writer)
+        answer_line_in_wording(alloc, self, line, RefusalWording::Brief, writer)
     }
 
     #[inline(always)]
-    fn obey<W: Write>(
+    fn obey_debugger_command<W: Write>(
         &mut self,
         alloc: Global,
-        command: Command,
+        command: DebuggerCommand,
         writer: &mut Writer<'_, W>,
     ) -> Result<LineAction, WriteError> {
-        execute_in_wording(alloc, self, command, RefusalWording::Brief, writer)?;
+        execute_command_in_wording(alloc, self, command, RefusalWording::Brief, writer)?;
         Ok(LineAction::Answered)
     }
 }
@@ -104,16 +107,16 @@ impl Responder for Lab {
 ///
 /// # Errors
 /// A write failed.
-pub fn answer_in_wording<W: Write>(
+pub fn answer_line_in_wording<W: Write>(
     alloc: Global,
     lab: &mut Lab,
     line: &[u8],
     wording: RefusalWording,
     writer: &mut Writer<'_, W>,
 ) -> Result<LineAction, WriteError>
-    ensures { WritesSomeText result (AnswersOrQuits (IsAnswerInWording wording) lab.old line.now lab.new result) W.contents writer.old writer.new }
+    ensures { WritesSomeText result (AnswersOrQuitsLine (IsAnswerInWording wording) lab.old line.now lab.new result) W.contents writer.old writer.new }
 {
-    if line.len() > LINE_LIMIT {
+    if line.len() > MAX_IMAGE_LINE_BYTES {
         writer.write_text(wording.long_line_refusal())?;
         return Ok(LineAction::Answered);
     }
@@ -123,9 +126,9 @@ pub fn answer_in_wording<W: Write>(
             Ok(LineAction::Answered)
         }
         Some(command) => match command {
-            Command::Quit => Ok(LineAction::Quit),
+            DebuggerCommand::Quit => Ok(LineAction::Quit),
             _ => {
-                execute_in_wording(alloc, lab, command, wording, writer)?;
+                execute_command_in_wording(alloc, lab, command, wording, writer)?;
                 Ok(LineAction::Answered)
             }
         },
@@ -137,30 +140,30 @@ pub fn answer_in_wording<W: Write>(
 /// # Errors
 /// A write failed.
 #[inline(always)]
-pub fn execute_in_wording<W: Write>(
+pub fn execute_command_in_wording<W: Write>(
     alloc: Global,
     lab: &mut Lab,
-    command: Command,
+    command: DebuggerCommand,
     wording: RefusalWording,
     writer: &mut Writer<'_, W>,
 ) -> WriteResult
     ensures { WritesSomeText result (λ text. IsCommandReply wording lab.old command text lab.new) W.contents writer.old writer.new }
 {
     match command {
-        Command::Step(at) => step(lab, at, wording, writer),
-        Command::Back => back(lab, wording, writer),
-        Command::Rewind(at, number) => rewind(lab, at, number, wording, writer),
-        Command::Node(at) => node(lab, at, writer),
-        Command::Memory(at, address) => memory(lab, at, address, writer),
-        Command::Trace(at) => trace(lab, at, wording, writer),
-        Command::Why {
+        DebuggerCommand::Step(at) => write_step_reply(lab, at, wording, writer),
+        DebuggerCommand::Back => write_back_reply(lab, wording, writer),
+        DebuggerCommand::Rewind(at, number) => write_rewind_reply(lab, at, number, wording, writer),
+        DebuggerCommand::Node(at) => write_node_reply(lab, at, writer),
+        DebuggerCommand::Memory(at, address) => write_memory_reply(lab, at, address, writer),
+        DebuggerCommand::Trace(at) => write_trace_reply(lab, at, wording, writer),
+        DebuggerCommand::Why {
             from,
             from_step,
             to,
             to_step,
-        } => why(lab, (from, from_step), (to, to_step), wording, writer),
-        Command::Count => count(lab, writer),
-        Command::Dump => dump(alloc, lab, wording, writer),
-        Command::Quit => Ok(()),
+        } => write_why_reply(lab, (from, from_step), (to, to_step), wording, writer),
+        DebuggerCommand::Count => write_count_reply(lab, writer),
+        DebuggerCommand::Dump => write_dump_reply(alloc, lab, wording, writer),
+        DebuggerCommand::Quit => Ok(()),
     }
 }

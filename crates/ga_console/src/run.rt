@@ -2,22 +2,22 @@
 ghost use Rattle.ga_text.specs.Output.{WritesText, ReadsAndWrites, ReadsAheadAndWrites};
 ghost use Rattle.std.specs.Prelude.{◌≡◌, IfOk, IfErr};
 ghost use Rattle.ga_text.specs.Input.{IsWithinInputLimit};
-ghost use Rattle.ga_console.specs.Run.{WritesSession, WritesSessionBy, WritesImageRefusal, IsOpenedOnImage, IsFaultOfImage, status_of_commands_end as status_that};
-ghost use Rattle.ga_console.specs.inner.Run.{AfterImage};
+ghost use Rattle.ga_console.specs.Run.{WritesSession, WritesSessionOfResponder, WritesImageRefusal, IsOpenedOnImage, IsFaultOfImage, status_of_commands_end as status_that};
+ghost use Rattle.ga_console.specs.inner.Run.{WritesSessionAfterImage};
 
 use super::commands::{CommandsEnd, serve_commands};
 use super::responder::Responder;
 use ga_display::write_image_fault;
-use ga_image::{ImageCause, ImageFault, parse};
+use ga_image::{ImageFault, ImageFaultCause, parse};
 use ga_lab::Lab;
-use ga_text::{ImageEnd, Input, TextBuffer, WriteError, Writer, read_image, write_all};
+use ga_text::{ImageReadEnd, InputBuffer, TextBuffer, WriteError, Writer, read_image, write_all};
 use std::alloc::Global;
 use std::io::{Read, Write};
 
 /// The fault of an image for which memory was wanting.
 const NO_MEMORY: ImageFault = ImageFault {
     line: 0,
-    cause: ImageCause::Memory,
+    cause: ImageFaultCause::Memory,
 };
 
 /// How a session or a race ended, and the exit status of the program.
@@ -61,22 +61,22 @@ pub fn session_with_responder<S: Responder, R: Read, W: Write>(
     writer: &mut W,
     limit: u32,
 ) -> Status
-    ensures { ReadsAndWrites (λ read rest text. WritesSessionBy S.answers S.refuses S.begin limit read rest text result)
+    ensures { ReadsAndWrites (λ read rest text. WritesSessionOfResponder S.answers S.refuses S.begin limit read rest text result)
         (R.remaining reader.old) (R.remaining reader.new) (W.contents writer.old) (W.contents writer.new) }
 {
-    let mut input = Input::new();
+    let mut input = InputBuffer::new();
     let mut image = Vec::new(alloc);
     match read_image(&mut input, reader, &mut image) {
         Err(_) => write_image_refusal(writer, NO_MEMORY),
-        Ok(ImageEnd::Failed) => Status::StreamFault,
+        Ok(ImageReadEnd::Failed) => Status::StreamFault,
         // No image that is accepted is so long.
-        Ok(ImageEnd::Past) => after_image::<S, R, W>(
+        Ok(ImageReadEnd::PastLimit) => after_image::<S, R, W>(
             alloc, &mut input, reader, writer, image, limit,
         ),
-        Ok(ImageEnd::Ended) => after_image::<S, R, W>(
+        Ok(ImageReadEnd::EndOfInput) => after_image::<S, R, W>(
             alloc, &mut input, reader, writer, image, limit,
         ),
-        Ok(ImageEnd::EndLine) => after_image::<S, R, W>(
+        Ok(ImageReadEnd::EndLine) => after_image::<S, R, W>(
             alloc, &mut input, reader, writer, image, limit,
         ),
     }
@@ -85,20 +85,20 @@ pub fn session_with_responder<S: Responder, R: Read, W: Write>(
 /// Serves the commands after an accepted image, or refuses it.
 fn after_image<S: Responder, R: Read, W: Write>(
     alloc: Global,
-    input: &mut Input,
+    input: &mut InputBuffer,
     reader: &mut R,
     writer: &mut W,
     image: Vec<u8>,
     limit: u32,
 ) -> Status
     requires { IsWithinInputLimit input.old }
-    ensures { ReadsAheadAndWrites input.old.bytes (λ read rest text. AfterImage S.answers S.refuses S.begin limit image.items input.old.taken input.old.bytes read rest text result)
+    ensures { ReadsAheadAndWrites input.old.bytes (λ read rest text. WritesSessionAfterImage S.answers S.refuses S.begin limit image.items input.old.taken input.old.bytes read rest text result)
         (R.remaining reader.old) (R.remaining reader.new) (W.contents writer.old) (W.contents writer.new) }
 {
-    match open_image(alloc, image, limit) {
+    match open_lab_from_image(alloc, image, limit) {
         Ok(lab) => {
             let mut session = S::open(lab);
-            let mut said = Writer::ready(writer);
+            let mut said = Writer::writer_with_ready_line(writer);
             status_of_commands_end(serve_commands(alloc, input, reader, &mut said, &mut session))
         }
         Err(fault) => write_image_refusal(writer, fault),
@@ -109,7 +109,7 @@ fn after_image<S: Responder, R: Read, W: Write>(
 ///
 /// # Errors
 /// The image's first fault, or want of memory.
-pub fn open_image(alloc: Global, image: Vec<u8>, limit: u32) -> Result<Lab, ImageFault>
+pub fn open_lab_from_image(alloc: Global, image: Vec<u8>, limit: u32) -> Result<Lab, ImageFault>
     ensures ok { IfOk result (λ lab. IsOpenedOnImage image.items limit lab) }
     ensures err { IfErr result (λ fault. IsFaultOfImage image.items fault) }
 {
@@ -137,10 +137,10 @@ pub fn status_of_commands_end(ending: Result<CommandsEnd, WriteError>) -> Status
     ensures { result ≡ status_that ending }
 {
     match ending {
-        Ok(CommandsEnd::Ended) => Status::Done,
+        Ok(CommandsEnd::InputEnded) => Status::Done,
         Ok(CommandsEnd::Quit) => Status::Done,
         Ok(CommandsEnd::Refused(_)) => Status::CommandRefused,
-        Ok(CommandsEnd::Past(_)) => Status::StreamFault,
+        Ok(CommandsEnd::PastLimit(_)) => Status::StreamFault,
         Ok(CommandsEnd::ReadFailed) => Status::StreamFault,
         Err(WriteError) => Status::StreamFault,
     }

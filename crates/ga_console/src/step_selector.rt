@@ -1,7 +1,7 @@
 //! Which step of a node a command or an option means.
 
 ghost use Rattle.std.specs.Prelude.{◌≡◌};
-ghost use Rattle.ga_console.specs.Selectors.{parse_step_selector, selected_step};
+ghost use Rattle.ga_console.specs.Selectors.{parse_step_selector, selected_step_number};
 
 use ga_grid::NodeId;
 use ga_lab::Lab;
@@ -30,7 +30,7 @@ impl StepSelector {
 
     /// The number of the step: of the last of a node that made none, 0, which no step has.
     pub fn resolve(self, lab: &Lab, node: NodeId) -> u32
-        ensures { result ≡ selected_step lab.now node self }
+        ensures { result ≡ selected_step_number lab.now node self }
     {
         match self {
             StepSelector::Number(step) => step,

@@ -4,45 +4,45 @@ use Rattle.std.proofs.Common.{◌≡◌, ◌∙◌, ℕ, ◌<◌, Bool, List, ap
 use Rattle.ga_grid.specs.declared.node_id.NodeId.{NodeId}
 use Rattle.ga_dap_views.specs.Threads.{has_thread}
 use Rattle.ga_dap_queries.specs.declared.debuggee.Debuggee.{Debuggee}
-use Rattle.ga_dap_control.specs.Configuring.{AreThreadMarks}
-use Rattle.ga_dap_protocol.specs.Sent.{SentMessages}
+use Rattle.ga_dap_control.specs.Configuring.{AreNodesWithThreads}
+use Rattle.ga_dap_protocol.specs.Sent.{OutboxContent}
 use Rattle.ga_dap_queries.specs.Sending.{Message, Messages, SendsMessage, SendsMessages}
 use Rattle.ga_dap.specs.declared.unanswered.NoResponse.{NoResponse}
 use Rattle.ga_dap.specs.declared.unanswered.NoResponse.TheVariants.{Memory, Untold}
-use Rattle.ga_dap.specs.Client.{sent_messages_of}
-use Rattle.ga_dap.specs.inner.Carrying.{Carries}
+use Rattle.ga_dap.specs.Client.{outbox_content_of_bytes}
+use Rattle.ga_dap.specs.inner.Carrying.{SendsReplyOrLacksMemory}
 use Rattle.std.specs.Prelude.{false}
 use Rattle.ga_dap_protocol.specs.declared.request.ClientRequest.{ClientRequest}
 use Rattle.ga_dap_queries.specs.declared.request_name.RequestName.{RequestName}
 use Rattle.ga_dap_control.specs.Requests.{AnswersImmediateRequest}
-use Rattle.ga_dap_control.specs.declared.launched.LaunchedProgram.{LaunchedProgram}
+use Rattle.ga_dap_control.specs.declared.launched.LaunchedSession.{LaunchedSession}
 use Rattle.ga_dap.specs.declared.session.Session.{Session}
-use Rattle.ga_dap.specs.Answering.{AnswersKnownRequest, ChangesLaunchedOnly, AnswersRequestIfLaunched, PerformsRequest, needs_stopped_chip}
+use Rattle.ga_dap.specs.Answering.{AnswersKnownRequest, ChangesLaunchedProgramOnly, AnswersRequestIfLaunched, PerformsRequest, needs_stopped_chip}
 use Rattle.ga_dap.specs.Launches.{FileReadRelation}
 
 -- ---- marks of the nodes that have something to show
 
-pub shown_so : (p : Debuggee) (nodes : List NodeId) (marks : ℕ → Bool) → nodes ≡ p.nodes.items → ((n : ℕ) → n < 144 → marks n ≡ has_thread p.lab nodes n) → AreThreadMarks p marks
+pub shown_so : (p : Debuggee) (nodes : List NodeId) (marks : ℕ → Bool) → nodes ≡ p.nodes.items → ((n : ℕ) → n < 144 → marks n ≡ has_thread p.lab nodes n) → AreNodesWithThreads p marks
 shown_so p nodes marks e h = λ n below. h n below ∙ ap (λ (z : List NodeId). has_thread p.lab z n) e
 
 -- ---- what was sent and is taken back; messages in a row; calls that carried out what they promise
 
 -- where nothing was there, what is taken back is what was there
-pub back_again : (o : SentMessages) → o.bytes ≡ [] → sent_messages_of [] o.seq ≡ o
-back_again o none = ap (λ (b : List ℕ). sent_messages_of b o.seq) (sym none)
+pub back_again : (o : OutboxContent) → o.bytes ≡ [] → outbox_content_of_bytes [] o.seq ≡ o
+back_again o none = ap (λ (b : List ℕ). outbox_content_of_bytes b o.seq) (sym none)
 
-pub sent_again : (o p : SentMessages) (messages : Messages) (new : SentMessages) → o.bytes ≡ [] → p ≡ sent_messages_of [] o.seq → SendsMessages p messages new → SendsMessages o messages new
+pub sent_again : (o p : OutboxContent) (messages : Messages) (new : OutboxContent) → o.bytes ≡ [] → p ≡ outbox_content_of_bytes [] o.seq → SendsMessages p messages new → SendsMessages o messages new
 sent_again o p messages new none e sent =
-    let P : SentMessages → Type 0 = λ z. SendsMessages z messages new in subst P (e ∙ back_again o none) sent
+    let P : OutboxContent → Type 0 = λ z. SendsMessages z messages new in subst P (e ∙ back_again o none) sent
 
 -- messages, and some after them
-pub sent_then : (old : SentMessages) (first : Message) (between : SentMessages) (rest : Messages) (new : SentMessages) → SendsMessage old first between → SendsMessages between rest new
+pub sent_then : (old : OutboxContent) (first : Message) (between : OutboxContent) (rest : Messages) (new : OutboxContent) → SendsMessage old first between → SendsMessages between rest new
     → SendsMessages old (first ∷ rest) new
 sent_then old first between rest new one all = (between, one, all)
 
 -- what a call did, in other words
-pub carries_so : (result : Result (Unit {0}) NoResponse) (P Q : Messages → Type 0) (Stays Still : Type 0) (old new : SentMessages)
-    → Carries result P Stays old new → ((messages : Messages) → P messages → Q messages) → (Stays → Still) → Carries result Q Still old new
+pub carries_so : (result : Result (Unit {0}) NoResponse) (P Q : Messages → Type 0) (Stays Still : Type 0) (old new : OutboxContent)
+    → SendsReplyOrLacksMemory result P Stays old new → ((messages : Messages) → P messages → Q messages) → (Stays → Still) → SendsReplyOrLacksMemory result Q Still old new
 carries_so (Ok done) P Q Stays Still old new h f g = (h.0, f h.0 h.1, h.2)
 carries_so (Err Memory) P Q Stays Still old new h f g = g h
 carries_so (Err Untold) P Q Stays Still old new h f g = tt
@@ -50,7 +50,7 @@ carries_so (Err Untold) P Q Stays Still old new h f g = tt
 -- a request that the session itself doesn't answer is one of what was launched
 pub of_launched : {S : Type 0} (G : FileReadRelation S) (host : S) (s : Session) (command : RequestName) (request : ClientRequest) (messages : Messages) (new : Session)
     → command ≢ the.Initialize → command ≢ the.Launch → command ≢ the.Disconnect → command ≢ the.Terminate
-    → ChangesLaunchedOnly (AnswersRequestIfLaunched command s.launched request) s messages new → AnswersKnownRequest G host s command request messages host new
+    → ChangesLaunchedProgramOnly (AnswersRequestIfLaunched command s.launched request) s messages new → AnswersKnownRequest G host s command request messages host new
 of_launched G host s the.Initialize request messages new i l d t does = absurd (i refl)
 of_launched G host s the.Launch request messages new i l d t does = absurd (l refl)
 of_launched G host s the.SetBreakpoints request messages new i l d t does = (does, refl)
@@ -78,7 +78,7 @@ of_launched G host s the.Terminate request messages new i l d t does = absurd (t
 of_launched G host s the.Disconnect request messages new i l d t does = absurd (d refl)
 
 -- one that makes no move and evaluates nothing is answered in place
-pub of_place : (command : RequestName) (l : LaunchedProgram) (request : ClientRequest) (messages : Messages) (new : LaunchedProgram)
+pub of_place : (command : RequestName) (l : LaunchedSession) (request : ClientRequest) (messages : Messages) (new : LaunchedSession)
     → command ≢ the.StepBack → command ≢ the.ReverseContinue → command ≢ the.Evaluate
     → AnswersImmediateRequest command l request messages new → PerformsRequest command l request messages new
 of_place the.Initialize l request messages new b r e does = does

@@ -1,4 +1,4 @@
 pub mod Known
 pub mod Serves
-pub mod LaunchedProgram
+pub mod LaunchedSession
 pub mod Turned

@@ -9,14 +9,14 @@ use Rattle.serde_json.specs.View.{view}
 use Rattle.ga_text.specs.Lines.{Bytes, Text}
 use Rattle.ga_text.specs.Output.{TextHasPrefix}
 use Rattle.ga_dap_protocol.specs.Framing.{IsMessage, IsMessagePrefix}
-use Rattle.ga_dap_protocol.specs.Inbox.{IsInputError}
+use Rattle.ga_dap_protocol.specs.Inbox.{IsFrameErrorOfInput}
 use Rattle.ga_dap_protocol.specs.Messages.{IsRequest, HoldsNoRequest}
-use Rattle.ga_dap_protocol.specs.Sent.{SentMessages}
+use Rattle.ga_dap_protocol.specs.Sent.{OutboxContent}
 use Rattle.ga_dap_protocol.specs.declared.request.ClientRequest.{ClientRequest}
 use Rattle.ga_dap_protocol.specs.declared.request.RequestError.{RequestError}
 use Rattle.ga_dap_protocol.specs.declared.request.RequestError.TheVariants as fault
 use Rattle.ga_dap_queries.specs.Sending.{Messages, SendsMessages, refused_response}
-use Rattle.ga_dap_control.specs.declared.launched.LaunchedProgram.{LaunchedProgram}
+use Rattle.ga_dap_control.specs.declared.launched.LaunchedSession.{LaunchedSession}
 use Rattle.ga_dap.specs.declared.session.Session.{Session}
 use Rattle.ga_dap.specs.declared.serving.SessionEnd.{SessionEnd}
 use Rattle.ga_dap.specs.declared.serving.SessionEnd.TheVariants as end
@@ -43,12 +43,12 @@ abbrev pub remaining_input : {S A : Type 0} → ServerState S A → Bytes
 remaining_input s = s.ahead ++ s.left
 
 -- whether a run is under way
-abbrev pub has_active_run : Option LaunchedProgram → Bool
+abbrev pub has_active_run : Option LaunchedSession → Bool
 has_active_run None = false
 has_active_run (Some l) = is_some l.execution.goal
 
-abbrev pub is_running : Session → Bool
-is_running s = has_active_run s.launched
+abbrev pub has_session_active_run : Session → Bool
+has_session_active_run s = has_active_run s.launched
 
 -- ---- a request that comes
 
@@ -56,9 +56,9 @@ is_running s = has_active_run s.launched
 abbrev pub request_error_text : RequestError → Text
 request_error_text fault.Memory = codes "out of memory"
 request_error_text fault.Json = codes "a message is no JSON"
-request_error_text fault.Kind = codes "a message is no request"
+request_error_text fault.WrongType = codes "a message is no request"
 request_error_text fault.Seq = codes "a request has no `seq`"
-request_error_text fault.Command = codes "a request has no `command`"
+request_error_text fault.MissingCommand = codes "a request has no `command`"
 
 abbrev pub invalid_request_output : RequestError → Messages
 invalid_request_output why = output_message (codes "stderr") (codes "ga144: " ++ request_error_text why ++ codes "\n") ∷ []
@@ -83,50 +83,50 @@ pub data AnswersContent {S : Type 0} (G : FileReadRelation S) (host : S) (s : Se
 -- ---- a turn
 
 -- no bytes to be written, or these, with the number of the last message
-abbrev pub empty_sent_messages : ℕ → SentMessages
-empty_sent_messages seq = record { bytes = []; seq = seq }
+abbrev pub empty_outbox_content : ℕ → OutboxContent
+empty_outbox_content seq = record { bytes = []; seq = seq }
 
-abbrev pub sent_messages_of : Bytes → ℕ → SentMessages
-sent_messages_of bytes seq = record { bytes = bytes; seq = seq }
+abbrev pub outbox_content_of_bytes : Bytes → ℕ → OutboxContent
+outbox_content_of_bytes bytes seq = record { bytes = bytes; seq = seq }
 
 -- what was read shows the next message, or that there is none
 abbrev pub NeedsNoMoreInput : Bytes → Type 0
 NeedsNoMoreInput ahead = IsMessagePrefix ahead → ⊥
 
 -- whether it is time for a request: no run is under way, or one was read, or the host says that one has come
-abbrev pub IsReadDue : {A : Type 0} → RequestArrivalRelation A → Bool → Bytes → A → Bool → A → Type 0
-IsReadDue T running ahead arrivals true after = ((running ≡ false) × (after ≡ arrivals)) ⊎ (NeedsNoMoreInput ahead × (after ≡ arrivals)) ⊎ T arrivals true after
-IsReadDue T running ahead arrivals false after = (running ≡ true) × (NeedsNoMoreInput ahead → ⊥) × T arrivals false after
+abbrev pub IsRequestReadDue : {A : Type 0} → RequestArrivalRelation A → Bool → Bytes → A → Bool → A → Type 0
+IsRequestReadDue T running ahead arrivals true after = ((running ≡ false) × (after ≡ arrivals)) ⊎ (NeedsNoMoreInput ahead × (after ≡ arrivals)) ⊎ T arrivals true after
+IsRequestReadDue T running ahead arrivals false after = (running ≡ true) × (NeedsNoMoreInput ahead → ⊥) × T arrivals false after
 
 -- a request is taken and answered
-pub record TakesMessage {S A : Type 0} (G : FileReadRelation S) (s : ServerState S A) (sent : Bytes) (t : ServerState S A) : Type 0 where
+pub record TakesAndAnswersMessage {S A : Type 0} (G : FileReadRelation S) (s : ServerState S A) (sent : Bytes) (t : ServerState S A) : Type 0 where
   pub content : Bytes
   pub text : Bytes
   pub whole : IsMessage content text
   pub taken : remaining_input s ≡ text ++ remaining_input t
   pub messages : Messages
   pub answers : AnswersContent G s.files s.session content messages t.files t.session
-  pub sends : SendsMessages (empty_sent_messages s.seq) messages (sent_messages_of sent t.seq)
+  pub sends : SendsMessages (empty_outbox_content s.seq) messages (outbox_content_of_bytes sent t.seq)
 
 -- the run in progress continues by a slice, and nothing is taken
 pub record ContinuesSessionRun {S A : Type 0} (s : ServerState S A) (sent : Bytes) (t : ServerState S A) : Type 0 where
-  pub before : LaunchedProgram
-  pub after : LaunchedProgram
+  pub before : LaunchedSession
+  pub after : LaunchedSession
   pub running : s.session.launched ≡ Some before
   pub messages : Messages
   pub goes : MakesRunSlice before messages after
   pub session : t.session ≡ record s.session { launched = Some after }
-  pub sends : SendsMessages (empty_sent_messages s.seq) messages (sent_messages_of sent t.seq)
+  pub sends : SendsMessages (empty_outbox_content s.seq) messages (outbox_content_of_bytes sent t.seq)
   pub files : t.files ≡ s.files
   pub ahead : t.ahead ≡ s.ahead
   pub left : t.left ≡ s.left
 
 abbrev pub AnswersMessageOrContinuesRun : {S A : Type 0} → FileReadRelation S → Bool → ServerState S A → Bytes → ServerState S A → Type 0
-AnswersMessageOrContinuesRun G true s sent t = TakesMessage G s sent t
+AnswersMessageOrContinuesRun G true s sent t = TakesAndAnswersMessage G s sent t
 AnswersMessageOrContinuesRun G false s sent t = ContinuesSessionRun s sent t
 
 abbrev pub IsServerIteration : {S A : Type 0} → FileReadRelation S → RequestArrivalRelation A → ServerState S A → Bytes → ServerState S A → Type 0
-IsServerIteration G T s sent t = (time : Bool) × IsReadDue T (is_running s.session) s.ahead s.arrivals time t.arrivals × AnswersMessageOrContinuesRun G time s sent t
+IsServerIteration G T s sent t = (time : Bool) × IsRequestReadDue T (has_session_active_run s.session) s.ahead s.arrivals time t.arrivals × AnswersMessageOrContinuesRun G time s sent t
 
 -- `n` turns, and what was sent in them
 abbrev pub ServesIterations : {S A : Type 0} → FileReadRelation S → RequestArrivalRelation A → ServerState S A → ℕ → Bytes → ServerState S A → Type 0
@@ -141,14 +141,14 @@ ServesIterations {S} {A} G T begin (suc count) said last = (between : ServerStat
 -- session; or a stream failed.
 abbrev pub IsSessionEnd : {S A : Type 0} → ServerState S A → SessionEnd → Type 0
 IsSessionEnd s end.Done = (s.session.is_over ≡ true) ⊎ (remaining_input s ≡ [])
-IsSessionEnd s (end.Broken why) = (s.session.is_over ≡ false) × IsInputError why (remaining_input s)
+IsSessionEnd s (end.BrokenFrame why) = (s.session.is_over ≡ false) × IsFrameErrorOfInput why (remaining_input s)
 IsSessionEnd s end.Memory = s.session.is_over ≡ false
 IsSessionEnd s end.StreamFault = Unit {0}
 
 -- what is written of all that was sent: the whole, or where a stream failed, a front of it
 abbrev pub IsOutputWritten : SessionEnd → Bytes → Bytes → Type 0
 IsOutputWritten end.Done said written = written ≡ said
-IsOutputWritten (end.Broken why) said written = written ≡ said
+IsOutputWritten (end.BrokenFrame why) said written = written ≡ said
 IsOutputWritten end.Memory said written = written ≡ said
 IsOutputWritten end.StreamFault said written = TextHasPrefix said written
 

@@ -1,13 +1,13 @@
 //! The messages about a change of the machine. If an allocation fails for them, they are sent once more.
 
 ghost use Rattle.std.specs.Prelude.{◌≡◌, [], codes, OnOk};
-ghost use Rattle.ga_causal.specs.Dependence.{is_marked};
+ghost use Rattle.ga_causal.specs.Dependence.{is_node_flagged};
 ghost use Rattle.ga_dap_queries.specs.Sending.{SendsMessage, SendsMessages, Messages};
 ghost use Rattle.ga_dap_control.specs.Back.{rollback_summary_text};
-ghost use Rattle.ga_dap.specs.Evaluating.{AreAnswerMessagesSince};
+ghost use Rattle.ga_dap.specs.Evaluating.{AreCommandAnswerAndChangeMessages};
 ghost use Rattle.ga_dap.specs.Launches.{output_message};
-ghost use Rattle.ga_dap.specs.Telling.{AreThreadMessages, AreStoppedMessages, AreStopMessages, AreSliceMessages, AreReverseMessages, AreMachineChangeMessages};
-ghost use Rattle.ga_dap.specs.inner.Carrying.{Carries};
+ghost use Rattle.ga_dap.specs.Telling.{AreThreadChangeMessages, AreStoppedMessages, AreRunEndMessages, AreRunSliceMessages, AreMoveBackMessages, AreMachineChangeMessages};
+ghost use Rattle.ga_dap.specs.inner.Carrying.{SendsReplyOrLacksMemory};
 
 use crate::evaluating::text_body;
 use crate::unanswered::NoResponse;
@@ -16,7 +16,7 @@ use ga_dap_control::{
 };
 use ga_dap_protocol::{ClientRequest, Outbox};
 use ga_dap_queries::{
-    Debuggee, emit_output, emit_stopped, emit_thread_changes, has_thread_by_node,
+    Debuggee, emit_output, emit_stopped_event, emit_thread_changes, thread_flags_by_node,
 };
 use ga_grid::NodeId;
 use std::alloc::{AllocError, Global};
@@ -29,9 +29,9 @@ fn tell_threads(
     before: &[bool; 144],
     out: &mut Outbox,
 ) -> Result<(), AllocError>
-    ensures { OnOk result ((messages : Messages) × AreThreadMessages (is_marked before.now) program.now messages × SendsMessages out.old messages out.new) }
+    ensures { OnOk result ((messages : Messages) × AreThreadChangeMessages (is_node_flagged before.now) program.now messages × SendsMessages out.old messages out.new) }
 {
-    let now = has_thread_by_node(&program.lab, program.nodes.as_slice());
+    let now = thread_flags_by_node(&program.lab, program.nodes.as_slice());
     emit_thread_changes(alloc, before, &now, out)
 }
 
@@ -45,10 +45,10 @@ fn tell_standing(
     node: NodeId,
     out: &mut Outbox,
 ) -> Result<(), AllocError>
-    ensures { OnOk result ((messages : Messages) × AreStoppedMessages (is_marked before.now) program.now reason.now description.now node messages × SendsMessages out.old messages out.new) }
+    ensures { OnOk result ((messages : Messages) × AreStoppedMessages (is_node_flagged before.now) program.now reason.now description.now node messages × SendsMessages out.old messages out.new) }
 {
     tell_threads(alloc, program, before, out)?;
-    emit_stopped(alloc, reason, description, node, out)
+    emit_stopped_event(alloc, reason, description, node, out)
 }
 
 /// Sends why a run ended, if it did.
@@ -59,7 +59,7 @@ fn tell_end(
     stop: Option<StopReason>,
     out: &mut Outbox,
 ) -> Result<(), AllocError>
-    ensures { OnOk result ((messages : Messages) × AreStopMessages program.now settings.now stop messages × SendsMessages out.old messages out.new) }
+    ensures { OnOk result ((messages : Messages) × AreRunEndMessages program.now settings.now stop messages × SendsMessages out.old messages out.new) }
 {
     match stop {
         Some(why) => emit_run_end(alloc, program, settings, why, out),
@@ -75,7 +75,7 @@ fn tell_slice(
     stop: Option<StopReason>,
     out: &mut Outbox,
 ) -> Result<(), AllocError>
-    ensures { OnOk result ((messages : Messages) × AreSliceMessages (is_marked before.now) program.now settings.now stop messages × SendsMessages out.old messages out.new) }
+    ensures { OnOk result ((messages : Messages) × AreRunSliceMessages (is_node_flagged before.now) program.now settings.now stop messages × SendsMessages out.old messages out.new) }
 {
     tell_threads(alloc, program, before, out)?;
     tell_end(alloc, program, settings, stop, out)
@@ -91,7 +91,7 @@ pub(crate) fn emit_slice_with_retry(
     out: &mut Outbox,
 ) -> Result<(), NoResponse>
     requires { out.old.bytes ≡ [] }
-    ensures { Carries result (λ messages. AreSliceMessages (is_marked before.now) program.now settings.now stop.now messages) ⊥ out.old out.new }
+    ensures { SendsReplyOrLacksMemory result (λ messages. AreRunSliceMessages (is_node_flagged before.now) program.now settings.now stop.now messages) ⊥ out.old out.new }
 {
     let seq = out.seq();
     match tell_slice(alloc, program, settings, before, *stop, out) {
@@ -127,7 +127,7 @@ fn tell_back(
     reason: &str,
     out: &mut Outbox,
 ) -> Result<(), AllocError>
-    ensures { OnOk result ((messages : Messages) × AreReverseMessages (is_marked before.now) program.now request.now gone.now.node (rollback_summary_text gone.now.node gone.now.before gone.now.removed program.now.lab) reason.now messages × SendsMessages out.old messages out.new) }
+    ensures { OnOk result ((messages : Messages) × AreMoveBackMessages (is_node_flagged before.now) program.now request.now gone.now.node (rollback_summary_text gone.now.node gone.now.before gone.now.removed program.now.lab) reason.now messages × SendsMessages out.old messages out.new) }
 {
     out.acknowledge(request)?;
     tell_gone(alloc, program, gone, out)?;
@@ -145,7 +145,7 @@ pub(crate) fn emit_rollback_with_retry(
     out: &mut Outbox,
 ) -> Result<(), NoResponse>
     requires { out.old.bytes ≡ [] }
-    ensures { Carries result (λ messages. AreReverseMessages (is_marked before.now) program.now request.now gone.now.node (rollback_summary_text gone.now.node gone.now.before gone.now.removed program.now.lab) reason.now messages) ⊥ out.old out.new }
+    ensures { SendsReplyOrLacksMemory result (λ messages. AreMoveBackMessages (is_node_flagged before.now) program.now request.now gone.now.node (rollback_summary_text gone.now.node gone.now.before gone.now.removed program.now.lab) reason.now messages) ⊥ out.old out.new }
 {
     let seq = out.seq();
     match tell_back(alloc, program, before, request, gone, reason, out) {
@@ -168,7 +168,7 @@ fn tell_moved(
     node: NodeId,
     out: &mut Outbox,
 ) -> Result<(), AllocError>
-    ensures { OnOk result ((messages : Messages) × AreMachineChangeMessages moved (is_marked before.now) program.now node messages × SendsMessages out.old messages out.new) }
+    ensures { OnOk result ((messages : Messages) × AreMachineChangeMessages moved (is_node_flagged before.now) program.now node messages × SendsMessages out.old messages out.new) }
 {
     if moved {
         tell_standing(alloc, program, before, "goto", "by a command", node, out)
@@ -187,7 +187,7 @@ fn tell_command(
     node: NodeId,
     out: &mut Outbox,
 ) -> Result<(), AllocError>
-    ensures { OnOk result ((messages : Messages) × AreAnswerMessagesSince request.now answer.now moved (is_marked before.now) program.now node messages × SendsMessages out.old messages out.new) }
+    ensures { OnOk result ((messages : Messages) × AreCommandAnswerAndChangeMessages request.now answer.now moved (is_node_flagged before.now) program.now node messages × SendsMessages out.old messages out.new) }
 {
     let body = text_body(alloc, answer)?;
     out.respond(request, body)?;
@@ -206,7 +206,7 @@ pub(crate) fn emit_command_with_retry(
     out: &mut Outbox,
 ) -> Result<(), NoResponse>
     requires { out.old.bytes ≡ [] }
-    ensures { Carries result (λ messages. AreAnswerMessagesSince request.now answer.now moved (is_marked before.now) program.now node messages) ⊥ out.old out.new }
+    ensures { SendsReplyOrLacksMemory result (λ messages. AreCommandAnswerAndChangeMessages request.now answer.now moved (is_node_flagged before.now) program.now node messages) ⊥ out.old out.new }
 {
     let seq = out.seq();
     match tell_command(alloc, program, before, request, answer, moved, node, out) {

@@ -5,28 +5,28 @@ ghost use Rattle.serde_json.specs.View.{view};
 ghost use Rattle.ga_text.specs.Lines.{Text};
 ghost use Rattle.ga_dap_queries.specs.Sending.{SendsMessages, Messages};
 ghost use Rattle.ga_dap_queries.specs.Evaluating.{DenotesNoVariable};
-ghost use Rattle.ga_dap_views.specs.Shown.{IsVariable};
+ghost use Rattle.ga_dap_views.specs.Shown.{IsNodeVariable};
 ghost use Rattle.ga_dap.specs.Evaluating.{AnswersEvaluateRequest, EvaluatesExpressionInNode, EvaluatesCommand, EvaluatesCommandIfAllowed, AreVariableValueMessages, is_repl_request};
-ghost use Rattle.ga_dap.specs.Telling.{is_change_done};
-ghost use Rattle.ga_dap.specs.inner.Carrying.{Carries};
+ghost use Rattle.ga_dap.specs.Telling.{is_change_command_done};
+ghost use Rattle.ga_dap.specs.inner.Carrying.{SendsReplyOrLacksMemory};
 
 use crate::back::refuse;
 use crate::changes::emit_command_with_retry;
 use crate::evaluating::{command_text, node_of_expression, value_body};
 use crate::unanswered::NoResponse;
-use ga_dap_protocol::{ClientRequest, Outbox, member_text};
-use ga_dap_queries::{Debuggee, has_thread_by_node, parse_variable};
+use ga_dap_protocol::{ClientRequest, Outbox, member_as_text};
+use ga_dap_queries::{Debuggee, parse_variable, thread_flags_by_node};
 use ga_dap_views::Variable;
-use ga_explorer::{CommandClass, command_class_of_line, is_refusal};
+use ga_explorer::{CommandClass, command_class_of_line, is_refusal_answer};
 use ga_grid::NodeId;
 use std::alloc::Global;
 
 /// Whether a command of this class changes the machine and was carried out, by its answer.
-fn is_change_done(class: Option<CommandClass>, answer: &[u8]) -> bool
-    ensures { result ≡ is_change_done class answer.now }
+fn is_change_command_done(class: Option<CommandClass>, answer: &[u8]) -> bool
+    ensures { result ≡ is_change_command_done class answer.now }
 {
     match class {
-        Some(CommandClass::Change) => !is_refusal(answer),
+        Some(CommandClass::Change) => !is_refusal_answer(answer),
         Some(CommandClass::Query) => false,
         None => false,
     }
@@ -36,7 +36,7 @@ fn is_change_done(class: Option<CommandClass>, answer: &[u8]) -> bool
 fn is_repl_request(request: &ClientRequest) -> bool
     ensures { result ≡ is_repl_request request.now }
 {
-    member_text(&request.arguments, "context").unwrap_or("repl") == "repl"
+    member_as_text(&request.arguments, "context").unwrap_or("repl") == "repl"
 }
 
 /// Shows a register or a cell.
@@ -48,8 +48,8 @@ fn show_value(
     variable: Variable,
     out: &mut Outbox,
 ) -> Result<(), NoResponse>
-    requires { IsVariable variable }
-    ensures { Carries result (λ messages. AreVariableValueMessages program.now request.now node variable messages) (Unit {0}) out.old out.new }
+    requires { IsNodeVariable variable }
+    ensures { SendsReplyOrLacksMemory result (λ messages. AreVariableValueMessages program.now request.now node variable messages) (Unit {0}) out.old out.new }
 {
     let Ok(body) = value_body(alloc, program, node, variable) else {
         return Err(NoResponse::Memory);
@@ -70,15 +70,15 @@ fn obey(
     out: &mut Outbox,
 ) -> Result<(), NoResponse>
     requires { out.old.bytes ≡ [] }
-    ensures { Carries result (λ messages. EvaluatesCommand program.old request.now node line.now messages program.new) (program.new ≡ program.old) out.old out.new }
+    ensures { SendsReplyOrLacksMemory result (λ messages. EvaluatesCommand program.old request.now node line.now messages program.new) (program.new ≡ program.old) out.old out.new }
 {
-    let before = has_thread_by_node(&program.lab, program.nodes.as_slice());
+    let before = thread_flags_by_node(&program.lab, program.nodes.as_slice());
     let bytes = line.as_bytes();
     let class = command_class_of_line(bytes);
     match command_text(alloc, program, bytes) {
         Ok(Some(answer)) => {
             let text = answer.as_slice();
-            let moved = is_change_done(class, text);
+            let moved = is_change_command_done(class, text);
             emit_command_with_retry(alloc, program, &before, request, text, moved, node, out)
         }
         Ok(None) => refuse(request, "evaluate: disconnect ends the session", out),
@@ -97,7 +97,7 @@ fn obey_if(
     out: &mut Outbox,
 ) -> Result<(), NoResponse>
     requires { out.old.bytes ≡ [] }
-    ensures { Carries result (λ messages. EvaluatesCommandIfAllowed (is_repl_request request.now) program.old request.now node line.now messages program.new) (program.new ≡ program.old) out.old out.new }
+    ensures { SendsReplyOrLacksMemory result (λ messages. EvaluatesCommandIfAllowed (is_repl_request request.now) program.old request.now node line.now messages program.new) (program.new ≡ program.old) out.old out.new }
 {
     if is_repl_request(request) {
         obey(alloc, program, request, node, line, out)
@@ -116,7 +116,7 @@ fn evaluate_in(
     out: &mut Outbox,
 ) -> Result<(), NoResponse>
     requires { out.old.bytes ≡ [] }
-    ensures { Carries result (λ messages. EvaluatesExpressionInNode program.old request.now node expression.now messages program.new) (program.new ≡ program.old) out.old out.new }
+    ensures { SendsReplyOrLacksMemory result (λ messages. EvaluatesExpressionInNode program.old request.now node expression.now messages program.new) (program.new ≡ program.old) out.old out.new }
 {
     match parse_variable(alloc, expression) {
         Ok(Some(variable)) => show_value(alloc, program, request, node, variable, out),
@@ -133,9 +133,9 @@ pub(crate) fn evaluate(
     out: &mut Outbox,
 ) -> Result<(), NoResponse>
     requires { out.old.bytes ≡ [] }
-    ensures { Carries result (λ messages. AnswersEvaluateRequest program.old request.now messages program.new) (program.new ≡ program.old) out.old out.new }
+    ensures { SendsReplyOrLacksMemory result (λ messages. AnswersEvaluateRequest program.old request.now messages program.new) (program.new ≡ program.old) out.old out.new }
 {
-    let Some(expression) = member_text(&request.arguments, "expression") else {
+    let Some(expression) = member_as_text(&request.arguments, "expression") else {
         return refuse(request, "evaluate: there is no expression", out);
     };
     let node = node_of_expression(program, request);

@@ -5,20 +5,22 @@ ghost use Rattle.std.specs.Str.{IsTrimAsciiEnd};
 ghost use Rattle.std.specs.Str.Lossy.{utf8_lossy};
 ghost use Rattle.ga_text.specs.Lines.{Bytes, Text};
 ghost use Rattle.serde_json.specs.View.{view};
-ghost use Rattle.ga_lab.specs.Machine.{chip_of};
-ghost use Rattle.ga_dap_views.specs.Shown.{IsVariable};
+ghost use Rattle.ga_lab.specs.Machine.{chip_of_machine};
+ghost use Rattle.ga_dap_views.specs.Shown.{IsNodeVariable};
 ghost use Rattle.ga_dap_queries.specs.Evaluating.{evaluate_body};
-ghost use Rattle.ga_dap_queries.specs.Readings.{IsDeadlockStatus};
-ghost use Rattle.ga_dap.specs.Evaluating.{IsEvaluationNode, Commands, answer_object};
-ghost use Rattle.ga_dap.specs.inner.Carrying.{no_response_of_class};
+ghost use Rattle.ga_dap_queries.specs.Readings.{TellsIfNodeIsDeadlocked};
+ghost use Rattle.ga_dap.specs.Evaluating.{IsEvaluationNode, ExecutesConsoleCommand, answer_text_object};
+ghost use Rattle.ga_dap.specs.inner.Carrying.{no_response_reason_of_command_class};
 ghost use Rattle.ga_explorer.specs.Classes.{command_class_of_line};
 
 use crate::unanswered::NoResponse;
 use ga_console::LineAction;
 use ga_dap_protocol::ClientRequest;
-use ga_dap_queries::{Debuggee, evaluate, first_thread_node, frame_argument, is_deadlocked};
+use ga_dap_queries::{
+    Debuggee, first_node_with_thread, frame_argument, is_deadlocked, make_evaluate_body,
+};
 use ga_dap_views::Variable;
-use ga_explorer::{CommandClass, answer_line, command_class_of_line};
+use ga_explorer::{CommandClass, answer_explorer_line, command_class_of_line};
 use ga_grid::NodeId;
 use ga_text::{OUTPUT_CAPACITY, Writer};
 use serde_json::{Value, json};
@@ -33,7 +35,7 @@ pub(crate) fn node_of_expression(program: &Debuggee, request: &ClientRequest) ->
 {
     match frame_argument(&request.arguments) {
         Some(node) => node,
-        None => first_thread_node(&program.lab, program.nodes.as_slice()),
+        None => first_node_with_thread(&program.lab, program.nodes.as_slice()),
     }
 }
 
@@ -44,11 +46,11 @@ pub(crate) fn value_body(
     node: NodeId,
     variable: Variable,
 ) -> Result<Value, AllocError>
-    requires { IsVariable variable }
-    ensures { IfOk result (λ v. (stuck : Bool) × IsDeadlockStatus (chip_of program.now.lab) node.number stuck × (view v ≡ evaluate_body program.now.lab stuck node.number variable)) }
+    requires { IsNodeVariable variable }
+    ensures { IfOk result (λ v. (stuck : Bool) × TellsIfNodeIsDeadlocked (chip_of_machine program.now.lab) node.number stuck × (view v ≡ evaluate_body program.now.lab stuck node.number variable)) }
 {
     let stuck = is_deadlocked(program.lab.chip(), node);
-    evaluate(alloc, &program.lab, stuck, node, variable)
+    make_evaluate_body(alloc, &program.lab, stuck, node, variable)
 }
 
 /// The first bytes of a line, as many as are looked at.
@@ -65,7 +67,7 @@ fn front_of_line(line: &[u8]) -> &[u8]
 
 /// Why a command has no answer, if an allocation failed after it was carried out: only a query changed nothing.
 fn no_response_to(line: &[u8]) -> NoResponse
-    ensures { result ≡ no_response_of_class (command_class_of_line line.now) }
+    ensures { result ≡ no_response_reason_of_command_class (command_class_of_line line.now) }
 {
     match command_class_of_line(line) {
         Some(CommandClass::Change) => NoResponse::Untold,
@@ -83,7 +85,7 @@ pub(crate) fn command_text(
     program: &mut Debuggee,
     line: &[u8],
 ) -> Result<Option<Vec<u8>>, NoResponse>
-    ensures told { IfOk result (λ told. Commands program.old line.now program.new (option_map (λ text. text.items) told)) }
+    ensures told { IfOk result (λ told. ExecutesConsoleCommand program.old line.now program.new (option_map (λ text. text.items) told)) }
     ensures unmoved { result ≡ Err NoResponse.Memory → program.new ≡ program.old }
 {
     let mut answer = Vec::new(alloc);
@@ -91,7 +93,7 @@ pub(crate) fn command_text(
         return Err(NoResponse::Memory);
     };
     let mut said = Writer::new(&mut answer);
-    match answer_line(
+    match answer_explorer_line(
         alloc,
         &mut program.lab,
         &program.source,
@@ -109,16 +111,16 @@ pub(crate) fn command_text(
 }
 
 /// A text as it is shown: what is not UTF-8 replaced.
-#[tactic(auto, unfolding(crate::specs::Evaluating::answer_object))]
+#[tactic(auto, unfolding(crate::specs::Evaluating::answer_text_object))]
 fn answer_body(alloc: Global, text: &str) -> Result<Value, AllocError>
-    ensures { IfOk result (λ v. view v ≡ answer_object text.now) }
+    ensures { IfOk result (λ v. view v ≡ answer_text_object text.now) }
 {
     json!(in alloc; {"result": text, "variablesReference": 0u64})
 }
 
 /// The body that has a text as its result, without the blanks at its end.
 pub(crate) fn text_body(alloc: Global, text: &[u8]) -> Result<Value, AllocError>
-    ensures { IfOk result (λ v. (shown : Text) × IsTrimAsciiEnd text.now shown × (view v ≡ answer_object (utf8_lossy shown))) }
+    ensures { IfOk result (λ v. (shown : Text) × IsTrimAsciiEnd text.now shown × (view v ≡ answer_text_object (utf8_lossy shown))) }
 {
     let text = String::from_utf8_lossy(alloc, text.trim_ascii_end())?;
     answer_body(alloc, text.as_str())

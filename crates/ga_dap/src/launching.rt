@@ -3,16 +3,16 @@
 ghost use Rattle.std.specs.Prelude.{◌≡◌, [], ◌∷◌, ◌++◌, None, Some, Ok, Err, Result, codes, string_bytes, IfOk, OnOk, OnErr};
 ghost use Rattle.serde_json.specs.View.{view};
 ghost use Rattle.ga_text.specs.Lines.{Bytes, Text};
-ghost use Rattle.ga_dap_queries.specs.Launching.{parse_limit, parse_schedule};
+ghost use Rattle.ga_dap_queries.specs.Launching.{parse_history_limit, parse_schedule};
 ghost use Rattle.ga_dap.specs.declared.sources.SourceError.{SourceError as WhyUnread};
-ghost use Rattle.ga_dap.specs.Launches.{AreWarningMessages, LaunchesText, ReadsFile, LaunchesWithArguments, LaunchesFirstProgram, launch_messages, launch_error_message, bare_event_message};
+ghost use Rattle.ga_dap.specs.Launches.{AreWarningMessages, LaunchesText, ReadsAndLaunchesFile, LaunchesWithArguments, LaunchesFirstProgram, launch_messages, launch_error_message, bare_event_message};
 ghost use Rattle.ga_dap_queries.specs.Sending.{SendsMessage, SendsMessages, Messages, refused_response};
 
 use crate::opening::{LaunchError, OpenedProgram, open_program};
 use crate::sources::{ProgramFiles, SourceError, source_error_text};
-use ga_dap_control::{Configuration, Execution, LaunchedProgram};
-use ga_dap_protocol::{ClientRequest, Outbox, member_text};
-use ga_dap_queries::{emit_output, parse_limit, parse_schedule, stops_on_entry};
+use ga_dap_control::{Configuration, Execution, LaunchedSession};
+use ga_dap_protocol::{ClientRequest, Outbox, member_as_text};
+use ga_dap_queries::{emit_output, parse_history_limit, parse_schedule, stops_on_entry};
 use ga_scheduler::Schedule;
 use std::alloc::{AllocError, Global};
 
@@ -21,7 +21,7 @@ fn refuse_launch(
     request: &ClientRequest,
     why: &str,
     out: &mut Outbox,
-) -> Result<Option<LaunchedProgram>, AllocError>
+) -> Result<Option<LaunchedSession>, AllocError>
     ensures { IfOk result (λ new. (new ≡ None) × SendsMessage out.old (refused_response request.now why.now) out.new) }
 {
     out.refuse(request, why)?;
@@ -35,7 +35,7 @@ fn refuse_file(
     path: &str,
     why: &str,
     out: &mut Outbox,
-) -> Result<Option<LaunchedProgram>, AllocError>
+) -> Result<Option<LaunchedSession>, AllocError>
     ensures { IfOk result (λ new. (new ≡ None) × SendsMessage out.old (launch_error_message request.now path.now why.now) out.new) }
 {
     let why = format!(in alloc; "launch: {path}: {why}")?;
@@ -77,7 +77,7 @@ fn launched_text(
     limit: u32,
     schedule: Schedule,
     out: &mut Outbox,
-) -> Result<Option<LaunchedProgram>, AllocError>
+) -> Result<Option<LaunchedSession>, AllocError>
     ensures { IfOk result (λ new. (messages : Messages) × LaunchesText text.items path.now limit schedule request.now messages new × SendsMessages out.old messages out.new) }
 {
     match open_program(alloc, path, text, limit) {
@@ -93,7 +93,7 @@ fn launched_text(
                 reported: [false; 144],
             };
             let settings = Configuration::new(alloc);
-            Ok(Some(LaunchedProgram {
+            Ok(Some(LaunchedSession {
                 program,
                 settings,
                 execution,
@@ -113,8 +113,8 @@ fn launched_file<S: ProgramFiles>(
     limit: u32,
     schedule: Schedule,
     out: &mut Outbox,
-) -> Result<Option<LaunchedProgram>, AllocError>
-    ensures { IfOk result (λ new. (messages : Messages) × ReadsFile S.gives sources.old request.now path.now limit schedule messages sources.new new × SendsMessages out.old messages out.new) }
+) -> Result<Option<LaunchedSession>, AllocError>
+    ensures { IfOk result (λ new. (messages : Messages) × ReadsAndLaunchesFile S.gives sources.old request.now path.now limit schedule messages sources.new new × SendsMessages out.old messages out.new) }
 {
     match sources.read(alloc, path) {
         Ok(text) => launched_text(alloc, request, path, text, limit, schedule, out),
@@ -130,7 +130,7 @@ fn launched_limit<S: ProgramFiles>(
     path: &str,
     limit: u32,
     out: &mut Outbox,
-) -> Result<Option<LaunchedProgram>, AllocError>
+) -> Result<Option<LaunchedSession>, AllocError>
     ensures { IfOk result (λ new. (messages : Messages) × LaunchesWithArguments S.gives sources.old request.now (Some path.now) (Some limit) (parse_schedule (view request.now.arguments)) messages sources.new new × SendsMessages out.old messages out.new) }
 {
     match parse_schedule(&request.arguments) {
@@ -150,10 +150,10 @@ fn launched_path<S: ProgramFiles>(
     request: &ClientRequest,
     path: &str,
     out: &mut Outbox,
-) -> Result<Option<LaunchedProgram>, AllocError>
-    ensures { IfOk result (λ new. (messages : Messages) × LaunchesWithArguments S.gives sources.old request.now (Some path.now) (parse_limit (view request.now.arguments)) (parse_schedule (view request.now.arguments)) messages sources.new new × SendsMessages out.old messages out.new) }
+) -> Result<Option<LaunchedSession>, AllocError>
+    ensures { IfOk result (λ new. (messages : Messages) × LaunchesWithArguments S.gives sources.old request.now (Some path.now) (parse_history_limit (view request.now.arguments)) (parse_schedule (view request.now.arguments)) messages sources.new new × SendsMessages out.old messages out.new) }
 {
-    match parse_limit(&request.arguments) {
+    match parse_history_limit(&request.arguments) {
         None => refuse_launch(request, "launch: the limit is 1 to 100000000", out),
         Some(limit) => launched_limit(alloc, sources, request, path, limit, out),
     }
@@ -168,10 +168,10 @@ pub(crate) fn launch_program<S: ProgramFiles>(
     sources: &mut S,
     request: &ClientRequest,
     out: &mut Outbox,
-) -> Result<Option<LaunchedProgram>, AllocError>
+) -> Result<Option<LaunchedSession>, AllocError>
     ensures { IfOk result (λ new. (messages : Messages) × LaunchesFirstProgram S.gives sources.old request.now messages sources.new new × SendsMessages out.old messages out.new) }
 {
-    match member_text(&request.arguments, "program") {
+    match member_as_text(&request.arguments, "program") {
         None => refuse_launch(request, "launch: there is no program", out),
         Some(path) => launched_path(alloc, sources, request, path, out),
     }

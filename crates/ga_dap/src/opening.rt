@@ -1,27 +1,28 @@
 //! A program that is opened: an image, or source.
 
 ghost use Rattle.std.specs.Prelude.{◌≡◌, ◌≢◌, [], None, IfOk, IfErr, map, string_bytes};
-ghost use Rattle.ga_grid.specs.Chip.{records_of};
-ghost use Rattle.ga_image.specs.FirstFault.{IsFirstFault};
+ghost use Rattle.ga_grid.specs.Chip.{records_of_chip};
+ghost use Rattle.ga_image.specs.FirstFault.{IsFirstImageFault};
 ghost use Rattle.ga_image.specs.declared.fault.ImageFault.{ImageFault as AnImageFault};
-ghost use Rattle.ga_image.specs.declared.fault.ImageCause.TheVariants.{Memory as NoMemory};
-ghost use Rattle.ga_source.specs.Made.{IsSoundSource};
-ghost use Rattle.ga_parser.specs.declared.fault.SourceCause.TheVariants.{Memory as Wanting};
-ghost use Rattle.ga_text.specs.Lines.{lines_of};
+ghost use Rattle.ga_image.specs.declared.fault.ImageFaultCause.TheVariants.{Memory as NoMemory};
+ghost use Rattle.ga_source.specs.Made.{IsPlainSource};
+ghost use Rattle.ga_parser.specs.declared.fault.SourceFaultCause.TheVariants.{Memory as Wanting};
+ghost use Rattle.ga_text.specs.Lines.{lines_of_text};
 ghost use Rattle.ga_lab.specs.Machine.{initial_state};
 ghost use Rattle.ga_console.specs.Run.{IsOpenedOnImage as OpensImage};
 ghost use Rattle.ga_explorer.specs.Opening.{begins_as_image, OpensSource};
-ghost use Rattle.ga_dap.specs.Opening.{OpensProgram, OpensText, IsNoProgram, IsRefusedSource, AreProgramNodes, AreNodesOfSource, program_explorer_state};
-ghost use Rattle.ga_dap.specs.inner.Unopened.{IfFault};
+ghost use Rattle.ga_dap.specs.Opening.{OpensProgram, OpensTextAsProgram, IsRefusedProgramText, IsRefusedSource, AreProgramNodes, AreNodesOfSource, program_explorer_state};
+ghost use Rattle.ga_dap.specs.inner.Unopened.{HoldsIfLaunchTextFault};
 
-use ga_console::{open_image, write_image_refusal};
+use ga_console::{open_lab_from_image, write_image_refusal};
 use ga_dap_queries::Debuggee;
-use ga_debug_info::{DebugInfo, debug_info_of, format_faults};
+use ga_debug_info::{DebugInfo, debug_info_of_source, format_faults};
 use ga_grid::{Chip, NodeId};
-use ga_image::{ImageCause, ImageFault};
+use ga_image::{ImageFault, ImageFaultCause};
 use ga_lab::{Lab, LabFault};
 use ga_source::{
-    Program as NodeProgram, SourceCause, SourceFault, Store, assemble, stores_over_code,
+    Program as NodeProgram, SourceFault, SourceFaultCause, StoreOverCode, assemble_source_text,
+    find_stores_over_code,
 };
 use ga_state_expectations::{
     ExpectationFault, ExpectationsError, check_source_expectations, format_expectation_faults,
@@ -88,7 +89,7 @@ pub fn open_program(
     ensures ok { IfOk result (λ opened. OpensProgram text.items limit opened.program) }
     ensures path { IfOk result (λ opened. string_bytes opened.program.path ≡ path.now) }
     ensures nodes { IfOk result (λ opened. AreProgramNodes text.items opened.program.nodes.items) }
-    ensures err { IfErr result (λ why. IfFault why (IsNoProgram text.items)) }
+    ensures err { IfErr result (λ why. HoldsIfLaunchTextFault why (IsRefusedProgramText text.items)) }
 {
     match contents_of(alloc, text, limit) {
         Ok(contents) => match program_of(alloc, path, contents) {
@@ -116,7 +117,7 @@ fn program_of(alloc: Global, path: &str, contents: Contents) -> Result<OpenedPro
     let program = Debuggee {
         lab,
         source,
-        empty_debug_info: DebugInfo::none(alloc),
+        empty_debug_info: DebugInfo::no_debug_info(alloc),
         nodes,
         path: String::from_str(alloc, path)?,
         name: String::from_str(alloc, name_in(path))?,
@@ -132,9 +133,9 @@ fn is_image(text: &[u8]) -> bool
 }
 
 fn contents_of(alloc: Global, text: Vec<u8>, limit: u32) -> Result<Contents, LaunchError>
-    ensures ok { IfOk result (λ c. OpensText text.items limit c.lab c.source) }
+    ensures ok { IfOk result (λ c. OpensTextAsProgram text.items limit c.lab c.source) }
     ensures nodes { IfOk result (λ c. AreProgramNodes text.items c.nodes.items) }
-    ensures err { IfErr result (λ why. IfFault why (IsNoProgram text.items)) }
+    ensures err { IfErr result (λ why. HoldsIfLaunchTextFault why (IsRefusedProgramText text.items)) }
 {
     if is_image(text.as_slice()) {
         return image_contents(alloc, text, limit);
@@ -146,9 +147,9 @@ fn image_contents(alloc: Global, text: Vec<u8>, limit: u32) -> Result<Contents, 
     ensures opens { IfOk result (λ c. OpensImage text.items limit c.lab) }
     ensures empty_debug_info { IfOk result (λ c. c.source ≡ None) }
     ensures nodes { IfOk result (λ c. c.nodes.items ≡ []) }
-    ensures err { IfErr result (λ why. IfFault why ((fault : AnImageFault) × IsFirstFault (lines_of text.items) fault)) }
+    ensures err { IfErr result (λ why. HoldsIfLaunchTextFault why ((fault : AnImageFault) × IsFirstImageFault (lines_of_text text.items) fault)) }
 {
-    match open_image(alloc, text, limit) {
+    match open_lab_from_image(alloc, text, limit) {
         Ok(lab) => Ok(Contents {
             lab,
             source: None,
@@ -161,9 +162,9 @@ fn image_contents(alloc: Global, text: Vec<u8>, limit: u32) -> Result<Contents, 
 
 /// The text about an image's fault.
 fn image_refused(alloc: Global, fault: ImageFault) -> LaunchError
-    ensures { IfFault result (fault.cause ≢ NoMemory) }
+    ensures { HoldsIfLaunchTextFault result (fault.cause ≢ NoMemory) }
 {
-    if fault.cause == ImageCause::Memory {
+    if fault.cause == ImageFaultCause::Memory {
         return LaunchError::Memory;
     }
     let mut text = Vec::new(alloc);
@@ -183,12 +184,12 @@ fn told(alloc: Global, text: &[u8]) -> LaunchError {
 fn accepted_contents(alloc: Global, source: &[u8], limit: u32) -> Result<Contents, LaunchError>
     ensures ok { IfOk result (λ c. OpensSource source.now limit (program_explorer_state c.lab c.source)) }
     ensures nodes { IfOk result (λ c. AreNodesOfSource source.now c.nodes.items) }
-    ensures err { IfErr result (λ why. IfFault why (IsRefusedSource source.now)) }
+    ensures err { IfErr result (λ why. HoldsIfLaunchTextFault why (IsRefusedSource source.now)) }
 {
     match check_source_expectations(alloc, source) {
         Ok(()) => source_contents(alloc, source, limit),
         Err(ExpectationsError::Memory) => Err(LaunchError::Memory),
-        Err(ExpectationsError::Faulty(faults)) => Err(faults_told(alloc, faults.as_slice())),
+        Err(ExpectationsError::FaultyLines(faults)) => Err(faults_told(alloc, faults.as_slice())),
     }
 }
 
@@ -203,15 +204,15 @@ fn faults_told(alloc: Global, faults: &[ExpectationFault]) -> LaunchError {
 fn source_contents(alloc: Global, source: &[u8], limit: u32) -> Result<Contents, LaunchError>
     ensures ok { IfOk result (λ c. OpensSource source.now limit (program_explorer_state c.lab c.source)) }
     ensures nodes { IfOk result (λ c. AreNodesOfSource source.now c.nodes.items) }
-    ensures err { IfErr result (λ why. IfFault why (IsSoundSource source.now → ⊥)) }
+    ensures err { IfErr result (λ why. HoldsIfLaunchTextFault why (IsPlainSource source.now → ⊥)) }
 {
-    match assemble(alloc, source) {
+    match assemble_source_text(alloc, source) {
         Err(fault) => Err(source_refused(alloc, source, fault)),
         Ok(assembled) => {
             let programs = assembled.programs.as_slice();
             let warnings = warnings_of(alloc, programs)?;
             let nodes = nodes_of(alloc, programs)?;
-            let notes = debug_info_of(alloc, source, programs)?;
+            let notes = debug_info_of_source(alloc, source, programs)?;
             let lab = lab_of(alloc, assembled.chip, limit)?;
             Ok(Contents {
                 lab,
@@ -224,7 +225,7 @@ fn source_contents(alloc: Global, source: &[u8], limit: u32) -> Result<Contents,
 }
 
 fn lab_of(alloc: Global, chip: Chip, limit: u32) -> Result<Lab, AllocError>
-    ensures { IfOk result (λ lab. lab ≡ initial_state (records_of chip) limit) }
+    ensures { IfOk result (λ lab. lab ≡ initial_state (records_of_chip chip) limit) }
 {
     match Lab::new(alloc, chip, limit) {
         Ok(lab) => Ok(lab),
@@ -234,9 +235,9 @@ fn lab_of(alloc: Global, chip: Chip, limit: u32) -> Result<Lab, AllocError>
 
 /// The refusal of a source with this fault.
 fn source_refused<'s>(alloc: Global, source: &'s [u8], fault: SourceFault<'s>) -> LaunchError
-    ensures { IfFault result (fault.entry.cause ≢ Wanting) }
+    ensures { HoldsIfLaunchTextFault result (fault.entry.cause ≢ Wanting) }
 {
-    if fault.cause == SourceCause::Memory {
+    if fault.cause == SourceFaultCause::Memory {
         return LaunchError::Memory;
     }
     match format_faults(alloc, b"", source, fault) {
@@ -260,7 +261,7 @@ fn nodes_of(alloc: Global, programs: &[NodeProgram<'_>]) -> Result<Vec<NodeId>, 
 fn warnings_of(alloc: Global, programs: &[NodeProgram<'_>]) -> Result<String, AllocError> {
     let mut text = String::new(alloc);
     for program in programs {
-        let stores = stores_over_code(alloc, program)?;
+        let stores = find_stores_over_code(alloc, program)?;
         for store in stores.as_slice() {
             push_warning(&mut text, *store)?;
         }
@@ -268,8 +269,8 @@ fn warnings_of(alloc: Global, programs: &[NodeProgram<'_>]) -> Result<String, Al
     Ok(text)
 }
 
-fn push_warning(text: &mut String, store: Store) -> Result<(), AllocError> {
-    let Store {
+fn push_warning(text: &mut String, store: StoreOverCode) -> Result<(), AllocError> {
+    let StoreOverCode {
         line,
         address,
         code_line,

@@ -2,7 +2,7 @@
 
 ghost use Rattle.std.specs.Prelude.{◌≡◌, ◌++◌, [], Some, OnOk};
 ghost use Rattle.ga_text.specs.Lines.{Bytes};
-ghost use Rattle.ga_text.specs.Output.{IsTextWritten, IsTextWrittenOrTruncated};
+ghost use Rattle.ga_text.specs.Output.{IsTextWrittenOrPending, IsTextWrittenOrTruncated};
 ghost use Rattle.ga_dap.specs.Client.{ServesClient};
 
 use crate::session::Session;
@@ -22,14 +22,14 @@ pub enum SessionEnd {
     /// of a change.
     Memory,
     /// The session ended by something that is no message: no message can be found after it.
-    Broken(FrameError),
+    BrokenFrame(FrameError),
     /// A stream failed.
     StreamFault,
 }
 
 /// Writes what is to be written.
 fn send<W: Write>(writer: &mut W, out: &mut Outbox) -> Result<(), WriteError>
-    ensures said { (before said : Bytes) → IsTextWritten (W.contents writer.old) before said out.old.bytes →
+    ensures said { (before said : Bytes) → IsTextWrittenOrPending (W.contents writer.old) before said out.old.bytes →
         IsTextWrittenOrTruncated result (W.contents writer.new) before said [] }
     ensures sent { OnOk result (out.new ≡ record { bytes = []; seq = out.old.seq }) }
 {

@@ -2,13 +2,13 @@
 
 ghost use Rattle.std.specs.Prelude.{◌≡◌, ◌&&◌, [], ◌∷◌, Option, Some, None, codes, string_bytes, is_some, option_map, OnOk, OnErr};
 ghost use Rattle.ga_dap_control.specs.Requests.{AnswersImmediateRequest};
-ghost use Rattle.ga_dap_control.specs.declared.launched.LaunchedProgram.{LaunchedProgram as ALaunched};
+ghost use Rattle.ga_dap_control.specs.declared.launched.LaunchedSession.{LaunchedSession as ALaunched};
 ghost use Rattle.ga_dap_queries.specs.Sending.{SendsMessages, Messages, bare_success_response};
-ghost use Rattle.ga_dap.specs.Answering.{AnswersRequest, AnswersKnownRequest, AnswersRequestWhileLaunched, PerformsRequest, AnswersRequestIfLaunched, ChangesLaunchedOnly, AnswersInitializeRequest, AnswersDisconnectRequest, AnswersTerminateRequest, launched_with_run_ended, needs_stopped_chip, begins_run, request_refusal_reason};
-ghost use Rattle.ga_dap.specs.Client.{is_running, new_session};
+ghost use Rattle.ga_dap.specs.Answering.{AnswersRequest, AnswersKnownRequest, AnswersRequestWhileLaunched, PerformsRequest, AnswersRequestIfLaunched, ChangesLaunchedProgramOnly, AnswersInitializeRequest, AnswersDisconnectRequest, AnswersTerminateRequest, program_with_run_ended, needs_stopped_chip, begins_run, request_refusal_reason};
+ghost use Rattle.ga_dap.specs.Client.{has_session_active_run, new_session};
 ghost use Rattle.ga_dap.specs.Going.{MakesRunSlice};
-ghost use Rattle.ga_dap.specs.Launches.{Launches, bare_event_message};
-ghost use Rattle.ga_dap.specs.inner.Carrying.{Carries};
+ghost use Rattle.ga_dap.specs.Launches.{AnswersLaunchRequest, bare_event_message};
+ghost use Rattle.ga_dap.specs.inner.Carrying.{SendsReplyOrLacksMemory};
 
 use crate::back::{refuse, reverse, step_back};
 use crate::changes::emit_slice_with_retry;
@@ -16,15 +16,15 @@ use crate::console::evaluate;
 use crate::launching::launch_program;
 use crate::sources::ProgramFiles;
 use crate::unanswered::NoResponse;
-use ga_dap_control::{Execution, LaunchedProgram, answer_immediate_request, make_event_slice};
+use ga_dap_control::{Execution, LaunchedSession, answer_immediate_request, make_event_slice};
 use ga_dap_protocol::{ClientRequest, Outbox};
-use ga_dap_queries::{RequestName, has_thread_by_node, initialize, parse_request_name};
+use ga_dap_queries::{RequestName, parse_request_name, respond_initialize, thread_flags_by_node};
 use std::alloc::{AllocError, Global};
 
 /// A session.
 #[derive(Drop)]
 pub(crate) struct Session {
-    pub launched: Option<LaunchedProgram>,
+    pub launched: Option<LaunchedSession>,
     /// Whether the client ended the session.
     pub is_over: bool,
 }
@@ -41,8 +41,8 @@ impl Session {
     }
 
     /// Whether a run is under way.
-    pub fn is_running(&self) -> bool
-        ensures { result ≡ is_running self.now }
+    pub fn has_session_active_run(&self) -> bool
+        ensures { result ≡ has_session_active_run self.now }
     {
         match &self.launched {
             Some(launched) => launched.execution.goal.is_some(),
@@ -60,7 +60,7 @@ impl Session {
         out: &mut Outbox,
     ) -> Result<(), NoResponse>
         requires { out.old.bytes ≡ [] }
-        ensures { Carries result (λ messages. AnswersRequest S.gives sources.old self.old request.now messages sources.new self.new) (self.new ≡ self.old) out.old out.new }
+        ensures { SendsReplyOrLacksMemory result (λ messages. AnswersRequest S.gives sources.old self.old request.now messages sources.new self.new) (self.new ≡ self.old) out.old out.new }
     {
         match parse_request_name(request.command.as_str()) {
             Some(command) => self.answer_known(alloc, command, sources, request, out),
@@ -78,7 +78,7 @@ impl Session {
         out: &mut Outbox,
     ) -> Result<(), NoResponse>
         requires { out.old.bytes ≡ [] }
-        ensures { Carries result (λ messages. AnswersKnownRequest S.gives sources.old self.old command request.now messages sources.new self.new) (self.new ≡ self.old) out.old out.new }
+        ensures { SendsReplyOrLacksMemory result (λ messages. AnswersKnownRequest S.gives sources.old self.old command request.now messages sources.new self.new) (self.new ≡ self.old) out.old out.new }
     {
         match command {
             RequestName::Initialize => self.initialize(alloc, request, out),
@@ -96,9 +96,9 @@ impl Session {
         request: &ClientRequest,
         out: &mut Outbox,
     ) -> Result<(), NoResponse>
-        ensures { Carries result (λ messages. AnswersInitializeRequest self.old request.now messages self.new) (self.new ≡ self.old) out.old out.new }
+        ensures { SendsReplyOrLacksMemory result (λ messages. AnswersInitializeRequest self.old request.now messages self.new) (self.new ≡ self.old) out.old out.new }
     {
-        match initialize(alloc, request, out) {
+        match respond_initialize(alloc, request, out) {
             Ok(()) => Ok(()),
             Err(_) => Err(NoResponse::Memory),
         }
@@ -112,7 +112,7 @@ impl Session {
         request: &ClientRequest,
         out: &mut Outbox,
     ) -> Result<(), NoResponse>
-        ensures { Carries result (λ messages. ChangesLaunchedOnly (λ m l. Launches S.gives sources.old self.old.launched request.now m sources.new l) self.old messages self.new) (self.new ≡ self.old) out.old out.new }
+        ensures { SendsReplyOrLacksMemory result (λ messages. ChangesLaunchedProgramOnly (λ m l. AnswersLaunchRequest S.gives sources.old self.old.launched request.now m sources.new l) self.old messages self.new) (self.new ≡ self.old) out.old out.new }
     {
         match &self.launched {
             Some(_) => refuse(request, "launch: a program is launched already", out),
@@ -128,7 +128,7 @@ impl Session {
 
     /// `disconnect`: the session ends.
     fn disconnect(&mut self, request: &ClientRequest, out: &mut Outbox) -> Result<(), NoResponse>
-        ensures { Carries result (λ messages. AnswersDisconnectRequest self.old request.now messages self.new) (self.new ≡ self.old) out.old out.new }
+        ensures { SendsReplyOrLacksMemory result (λ messages. AnswersDisconnectRequest self.old request.now messages self.new) (self.new ≡ self.old) out.old out.new }
     {
         match out.acknowledge(request) {
             Ok(()) => {
@@ -141,7 +141,7 @@ impl Session {
 
     /// `terminate`: the run ends.
     fn terminate(&mut self, request: &ClientRequest, out: &mut Outbox) -> Result<(), NoResponse>
-        ensures { Carries result (λ messages. AnswersTerminateRequest self.old request.now messages self.new) (self.new ≡ self.old) out.old out.new }
+        ensures { SendsReplyOrLacksMemory result (λ messages. AnswersTerminateRequest self.old request.now messages self.new) (self.new ≡ self.old) out.old out.new }
     {
         match tell_terminated(request, out) {
             Ok(()) => {
@@ -161,7 +161,7 @@ impl Session {
         out: &mut Outbox,
     ) -> Result<(), NoResponse>
         requires { out.old.bytes ≡ [] }
-        ensures { Carries result (λ messages. ChangesLaunchedOnly (AnswersRequestIfLaunched command self.old.launched request.now) self.old messages self.new) (self.new ≡ self.old) out.old out.new }
+        ensures { SendsReplyOrLacksMemory result (λ messages. ChangesLaunchedProgramOnly (AnswersRequestIfLaunched command self.old.launched request.now) self.old messages self.new) (self.new ≡ self.old) out.old out.new }
     {
         match &mut self.launched {
             Some(launched) => answer_by(alloc, launched, command, request, out),
@@ -179,8 +179,8 @@ fn tell_terminated(request: &ClientRequest, out: &mut Outbox) -> Result<(), Allo
 }
 
 /// Ends the run under way.
-fn end_run(launched: &mut Option<LaunchedProgram>)
-    ensures { launched.new ≡ launched_with_run_ended launched.old }
+fn end_run(launched: &mut Option<LaunchedSession>)
+    ensures { launched.new ≡ program_with_run_ended launched.old }
 {
     match launched {
         Some(launched) => launched.execution.goal = None,
@@ -233,13 +233,13 @@ fn request_refusal_reason(command: RequestName, execution: &Execution) -> Option
 /// Answers a request that needs a program.
 fn answer_by(
     alloc: Global,
-    launched: &mut LaunchedProgram,
+    launched: &mut LaunchedSession,
     command: RequestName,
     request: &ClientRequest,
     out: &mut Outbox,
 ) -> Result<(), NoResponse>
     requires { out.old.bytes ≡ [] }
-    ensures { Carries result (λ messages. AnswersRequestWhileLaunched command launched.old request.now messages launched.new) (launched.new ≡ launched.old) out.old out.new }
+    ensures { SendsReplyOrLacksMemory result (λ messages. AnswersRequestWhileLaunched command launched.old request.now messages launched.new) (launched.new ≡ launched.old) out.old out.new }
 {
     match request_refusal_reason(command, &launched.execution) {
         Some(why) => refuse(request, why, out),
@@ -250,13 +250,13 @@ fn answer_by(
 /// Answers a request that needs a program, if the chip is stopped or the request doesn't need that.
 fn answer_standing(
     alloc: Global,
-    launched: &mut LaunchedProgram,
+    launched: &mut LaunchedSession,
     command: RequestName,
     request: &ClientRequest,
     out: &mut Outbox,
 ) -> Result<(), NoResponse>
     requires { out.old.bytes ≡ [] }
-    ensures { Carries result (λ messages. PerformsRequest command launched.old request.now messages launched.new) (launched.new ≡ launched.old) out.old out.new }
+    ensures { SendsReplyOrLacksMemory result (λ messages. PerformsRequest command launched.old request.now messages launched.new) (launched.new ≡ launched.old) out.old out.new }
 {
     match command {
         RequestName::StepBack => step_back(alloc, &mut launched.program, request, out),
@@ -275,12 +275,12 @@ fn answer_standing(
 /// Answers a request that makes no event and takes none back.
 fn in_place(
     alloc: Global,
-    launched: &mut LaunchedProgram,
+    launched: &mut LaunchedSession,
     command: RequestName,
     request: &ClientRequest,
     out: &mut Outbox,
 ) -> Result<(), NoResponse>
-    ensures { Carries result (λ messages. AnswersImmediateRequest command launched.old request.now messages launched.new) (launched.new ≡ launched.old) out.old out.new }
+    ensures { SendsReplyOrLacksMemory result (λ messages. AnswersImmediateRequest command launched.old request.now messages launched.new) (launched.new ≡ launched.old) out.old out.new }
 {
     match answer_immediate_request(alloc, launched, command, request, out) {
         Ok(()) => Ok(()),
@@ -292,13 +292,13 @@ fn in_place(
 #[tactic(auto, using(crate::proofs::Known::shown_so, crate::proofs::Known::carries_so))]
 pub(crate) fn go_on_launched(
     alloc: Global,
-    launched: &mut LaunchedProgram,
+    launched: &mut LaunchedSession,
     out: &mut Outbox,
 ) -> Result<(), NoResponse>
     requires { out.old.bytes ≡ [] }
-    ensures { Carries result (λ messages. MakesRunSlice launched.old messages launched.new) (Unit {0}) out.old out.new }
+    ensures { SendsReplyOrLacksMemory result (λ messages. MakesRunSlice launched.old messages launched.new) (Unit {0}) out.old out.new }
 {
-    let before = has_thread_by_node(&launched.program.lab, launched.program.nodes.as_slice());
+    let before = thread_flags_by_node(&launched.program.lab, launched.program.nodes.as_slice());
     let stop = make_event_slice(
         &mut launched.program,
         &launched.settings,

@@ -16,16 +16,16 @@ pub enum SourceError {
     Memory,
     /// No file has this path.
     #[error("no such file")]
-    Missing,
+    MissingFile,
     /// The path is that of a folder.
     #[error("a folder")]
-    Folder,
+    PathIsFolder,
     /// The file has more than 16777216 bytes.
     #[error("more than 16777216 bytes")]
-    TooLong,
+    FileTooLong,
     /// The file can't be read.
     #[error("it can't be read")]
-    Unreadable,
+    UnreadableFile,
 }
 
 /// The text about a file that is not read.
@@ -34,10 +34,10 @@ pub(crate) fn source_error_text(why: SourceError) -> &'static str
 {
     match why {
         SourceError::Memory => "out of memory",
-        SourceError::Missing => "no such file",
-        SourceError::Folder => "a folder",
-        SourceError::TooLong => "more than 16777216 bytes",
-        SourceError::Unreadable => "it can't be read",
+        SourceError::MissingFile => "no such file",
+        SourceError::PathIsFolder => "a folder",
+        SourceError::FileTooLong => "more than 16777216 bytes",
+        SourceError::UnreadableFile => "it can't be read",
     }
 }
 
@@ -61,6 +61,6 @@ pub trait PendingInput {
     ghost tells: { Self → Bool → Self → Type 0 };
 
     /// Whether a read would not wait.
-    fn have_come(&mut self) -> bool
+    fn have_requests_come(&mut self) -> bool
         ensures { tells self.old result self.new };
 }

@@ -5,8 +5,8 @@ ghost use Rattle.ga_text.specs.Lines.{Bytes};
 ghost use Rattle.ga_dap_protocol.specs.Inbox.{IsNextMessage};
 ghost use Rattle.ga_dap_protocol.specs.Messages.{HoldsNoRequest};
 ghost use Rattle.ga_dap_queries.specs.Sending.{SendsMessages};
-ghost use Rattle.ga_dap.specs.Client.{IsReadDue, IsRequestInContent, is_running, invalid_request_output, out_of_memory_messages, request_error_text, empty_sent_messages};
-ghost use Rattle.ga_dap.specs.inner.Turning.{AnswersOrEnds, DeclinesOrEnds, ContentOrEnds, TakesOrEnds, GoesOnOrEnds, TurnOrEnds, serving_at};
+ghost use Rattle.ga_dap.specs.Client.{IsRequestReadDue, IsRequestInContent, has_session_active_run, invalid_request_output, out_of_memory_messages, request_error_text, empty_outbox_content};
+ghost use Rattle.ga_dap.specs.inner.Turning.{AnswersRequestOrEnds, DeclinesRequestOrEndsSession, AnswersContentOrEnds, TakesMessageOrEnds, ContinuesRunOrEnds, MakesTurnOrEnds, server_state_of_parts};
 
 use crate::serving::SessionEnd;
 use crate::session::{Session, go_on_launched};
@@ -56,9 +56,9 @@ fn request_error_text(why: RequestError) -> &'static str
     match why {
         RequestError::Memory => "out of memory",
         RequestError::Json => "a message is no JSON",
-        RequestError::Kind => "a message is no request",
+        RequestError::WrongType => "a message is no request",
         RequestError::Seq => "a request has no `seq`",
-        RequestError::Command => "a request has no `command`",
+        RequestError::MissingCommand => "a request has no `command`",
     }
 }
 
@@ -74,7 +74,7 @@ fn tell_no_request(alloc: Global, why: RequestError, out: &mut Outbox) -> Result
 
 /// Sends that a message is no request, and once more if an allocation failed for that.
 fn decline(alloc: Global, why: RequestError, out: &mut Outbox) -> Progress
-    ensures { DeclinesOrEnds why out.old result out.new }
+    ensures { DeclinesRequestOrEndsSession why out.old result out.new }
 {
     match tell_no_request(alloc, why, out) {
         Ok(()) => return Progress::On,
@@ -89,7 +89,7 @@ fn decline(alloc: Global, why: RequestError, out: &mut Outbox) -> Progress
 /// The refusal of a request for which an allocation failed, after the message of this number.
 #[tactic(auto, using(crate::proofs::Known::sent_again, ga_dap_queries::proofs::Sent::sent_one))]
 fn refusal_of(alloc: Global, request: &ClientRequest, seq: u64) -> Result<Outbox, AllocError>
-    ensures { IfOk result (λ out. SendsMessages (empty_sent_messages seq) (out_of_memory_messages request.now) out) }
+    ensures { IfOk result (λ out. SendsMessages (empty_outbox_content seq) (out_of_memory_messages request.now) out) }
 {
     let mut out = Outbox::new(alloc);
     out.discard_unsent(seq);
@@ -99,7 +99,7 @@ fn refusal_of(alloc: Global, request: &ClientRequest, seq: u64) -> Result<Outbox
 
 /// The refusal of a request for want of memory, made once more where memory was refused to it.
 fn refusal_for(alloc: Global, request: &ClientRequest, seq: u64) -> Result<Outbox, AllocError>
-    ensures { IfOk result (λ out. SendsMessages (empty_sent_messages seq) (out_of_memory_messages request.now) out) }
+    ensures { IfOk result (λ out. SendsMessages (empty_outbox_content seq) (out_of_memory_messages request.now) out) }
 {
     match refusal_of(alloc, request, seq) {
         Ok(refusal) => Ok(refusal),
@@ -117,7 +117,7 @@ fn answer<S: ProgramFiles>(
     out: &mut Outbox,
 ) -> Progress
     requires { out.old.bytes ≡ [] }
-    ensures { AnswersOrEnds S.gives sources.old session.old request.now out.old result out.new sources.new session.new }
+    ensures { AnswersRequestOrEnds S.gives sources.old session.old request.now out.old result out.new sources.new session.new }
 {
     let seq = out.seq();
     let Ok(refusal) = refusal_for(alloc, request, seq) else {
@@ -142,15 +142,15 @@ fn answer_content<S: ProgramFiles>(
     out: &mut Outbox,
 ) -> Progress
     requires { out.old.bytes ≡ [] }
-    ensures { ContentOrEnds S.gives sources.old session.old content.now out.old result out.new sources.new session.new }
+    ensures { AnswersContentOrEnds S.gives sources.old session.old content.now out.old result out.new sources.new session.new }
 {
     match request_in(alloc, content) {
         Ok(request) => answer(alloc, session, sources, &request, out),
         Err(RequestError::Memory) => Progress::End(SessionEnd::Memory),
         Err(RequestError::Json) => decline(alloc, RequestError::Json, out),
-        Err(RequestError::Kind) => decline(alloc, RequestError::Kind, out),
+        Err(RequestError::WrongType) => decline(alloc, RequestError::WrongType, out),
         Err(RequestError::Seq) => decline(alloc, RequestError::Seq, out),
-        Err(RequestError::Command) => decline(alloc, RequestError::Command, out),
+        Err(RequestError::MissingCommand) => decline(alloc, RequestError::MissingCommand, out),
     }
 }
 
@@ -167,7 +167,7 @@ fn take<S: ProgramFiles, R: Read>(
     requires { out.old.bytes ≡ [] }
     ensures { (left : Bytes) → R.remaining reader.old ≡ Some left →
         (rest : Bytes) × (R.remaining reader.new ≡ Some rest)
-        × TakesOrEnds S.gives sources.old session.old (inbox.old ++ left) out.old result out.new sources.new session.new (inbox.new ++ rest) }
+        × TakesMessageOrEnds S.gives sources.old session.old (inbox.old ++ left) out.old result out.new sources.new session.new (inbox.new ++ rest) }
 {
     match next_message(inbox, reader) {
         Ok(NextMessage::Message(content)) => answer_content(
@@ -179,16 +179,16 @@ fn take<S: ProgramFiles, R: Read>(
         ),
         Ok(NextMessage::End) => Progress::End(SessionEnd::Done),
         Ok(NextMessage::Failed) => Progress::End(SessionEnd::StreamFault),
-        Ok(NextMessage::Wrong(why)) => Progress::End(SessionEnd::Broken(why)),
+        Ok(NextMessage::NoMessage(why)) => Progress::End(SessionEnd::BrokenFrame(why)),
         Err(_) => Progress::End(SessionEnd::Memory),
     }
 }
 
 /// Continues the run in progress, if there is one.
 fn go_on(alloc: Global, session: &mut Session, out: &mut Outbox) -> Progress
-    requires running { is_running session.old ≡ true }
+    requires running { has_session_active_run session.old ≡ true }
     requires sent { out.old.bytes ≡ [] }
-    ensures { GoesOnOrEnds session.old out.old result out.new session.new }
+    ensures { ContinuesRunOrEnds session.old out.old result out.new session.new }
 {
     match &mut session.launched {
         Some(launched) => match go_on_launched(alloc, launched, out) {
@@ -201,15 +201,15 @@ fn go_on(alloc: Global, session: &mut Session, out: &mut Outbox) -> Progress
 
 /// Whether it is time for a request: no run is in progress, or what was read shows one, or more has come.
 fn is_time<A: PendingInput>(session: &Session, inbox: &Inbox, arrivals: &mut A) -> bool
-    ensures { IsReadDue A.tells (is_running session.now) inbox.now arrivals.old result arrivals.new }
+    ensures { IsRequestReadDue A.tells (has_session_active_run session.now) inbox.now arrivals.old result arrivals.new }
 {
-    if !session.is_running() {
+    if !session.has_session_active_run() {
         return true;
     }
     if inbox.has_next() {
         return true;
     }
-    arrivals.have_come()
+    arrivals.have_requests_come()
 }
 
 /// One turn of a session.
@@ -226,8 +226,8 @@ pub(crate) fn turn<S: ProgramFiles, A: PendingInput, R: Read>(
     requires { out.old.bytes ≡ [] }
     ensures { (left : Bytes) → R.remaining reader.old ≡ Some left →
         (rest : Bytes) × (R.remaining reader.new ≡ Some rest)
-        × TurnOrEnds S.gives A.tells (serving_at sources.old arrivals.old session.old out.old.seq inbox.old left) result out.new.bytes
-        (serving_at sources.new arrivals.new session.new out.new.seq inbox.new rest) }
+        × MakesTurnOrEnds S.gives A.tells (server_state_of_parts sources.old arrivals.old session.old out.old.seq inbox.old left) result out.new.bytes
+        (server_state_of_parts sources.new arrivals.new session.new out.new.seq inbox.new rest) }
 {
     if is_time(session, inbox, arrivals) {
         take(alloc, session, sources, inbox, reader, out)

@@ -3,26 +3,26 @@ use Rattle.std.specs.Prelude.{ℕ, zero, suc, ◌+◌, ◌-◌, ◌%◌, ◌==�
 use Rattle.std.specs.List.{slice_get}
 use Rattle.ga_slots.specs.declared.op.Op.{Op}
 use Rattle.ga_slots.specs.declared.op.Op.TheVariants.{Return, Execute, Jump, Call, Next, If, MinusIf}
-use Rattle.ga_slots.specs.Codes.{op_of_code}
+use Rattle.ga_slots.specs.Codes.{opcode_of_code}
 use Rattle.ga_node.specs.declared.kind.OwnEventKind.TheVariants as kind
 use Rattle.ga_grid.specs.declared.node_id.NodeId.{NodeId}
-use Rattle.ga_event.specs.declared.made.Made.{Made}
-use Rattle.ga_event.specs.declared.made.Made.TheVariants as made
+use Rattle.ga_event.specs.declared.made.MadeEvent.{MadeEvent}
+use Rattle.ga_event.specs.declared.made.MadeEvent.TheVariants as made
 use Rattle.ga_event.specs.Told.{count_steps}
-use Rattle.ga_lab.specs.Machine.{State, history_of}
+use Rattle.ga_lab.specs.Machine.{MachineState, history_of_node}
 use Rattle.ga_debug_info.specs.declared.notes.DebugInfo.{DebugInfo}
 use Rattle.ga_debug_info.specs.declared.wording.SlotWord.{SlotWord}
 use Rattle.ga_dap_views.specs.declared.spots.SlotAddress.{SlotAddress}
-use Rattle.ga_dap_views.specs.Calls.{pushed_by_step, is_call_step}
-use Rattle.ga_dap_views.specs.Labels.{source_line_of_slot, line_start_word}
-use Rattle.ga_dap_breakpoints.specs.Back.{rolled_back_past}
-use Rattle.ga_dap_views.specs.Spots.{slot_address_after}
+use Rattle.ga_dap_views.specs.Calls.{step_pushing_return_entry, is_call_step}
+use Rattle.ga_dap_views.specs.Labels.{source_line_of_slot, first_code_word_of_line}
+use Rattle.ga_dap_breakpoints.specs.Back.{state_rolled_back_past_steps}
+use Rattle.ga_dap_views.specs.Spots.{slot_address_after_steps}
 
 -- ---- places of a node: after `n` of its steps
 
 -- the opcode that the step with this number executed, by its event
-abbrev pub executed_op : Option Made → Option Op
-executed_op (Some (made.Own node step (kind.Run code))) = Some (op_of_code (code % 32))
+abbrev pub executed_op : Option MadeEvent → Option Op
+executed_op (Some (made.Own node step (kind.Run code))) = Some (opcode_of_code (code % 32))
 executed_op _ = None
 
 abbrev pub is_return_op : Option Op → Bool
@@ -40,16 +40,16 @@ is_jump_op (Some If) = true
 is_jump_op (Some MinusIf) = true
 is_jump_op _ = false
 
-abbrev pub op_of_step : State → NodeId → ℕ → Option Op
-op_of_step s node k = executed_op (slice_get (history_of s node.number) k)
+abbrev pub op_of_step : MachineState → NodeId → ℕ → Option Op
+op_of_step s node k = executed_op (slice_get (history_of_node s node.number) k)
 
 -- Of two places, the second one step after the first, the first; if that step returned from a call that the node made after its
 -- first `n` steps, the place before the call, so that the call is stepped over.
-abbrev pub place_over_call : ℕ → State → NodeId → ℕ → ℕ → ℕ
-place_over_call began s node k call = if nat_lt began call && is_call_step s node call then call - 1 else k
+abbrev pub step_count_before_step_or_call : ℕ → MachineState → NodeId → ℕ → ℕ → ℕ
+step_count_before_step_or_call began s node k call = if nat_lt began call && is_call_step s node call then call - 1 else k
 
-abbrev pub previous_step_place : ℕ → State → NodeId → ℕ → ℕ
-previous_step_place began s node k = if is_return_op (op_of_step s node k) then place_over_call began s node k (pushed_by_step s node k 0) else k
+abbrev pub previous_step_count_over_calls : ℕ → MachineState → NodeId → ℕ → ℕ
+previous_step_count_over_calls began s node k = if is_return_op (op_of_step s node k) then step_count_before_step_or_call began s node k (step_pushing_return_entry s node k 0) else k
 
 -- ---- where a line begins
 
@@ -57,16 +57,16 @@ abbrev pub line_of_slot_address : DebugInfo → NodeId → Option SlotAddress �
 line_of_slot_address notes node spot = option_and_then (source_line_of_slot notes node) spot
 
 -- a slot is the first of a line
-abbrev pub is_line_start_slot : SlotAddress → Option SlotWord → Bool
-is_line_start_slot spot None = false
-is_line_start_slot spot (Some word) = word.cell == spot.cell && word.first == spot.slot
+abbrev pub is_first_slot_of_optional_word : SlotAddress → Option SlotWord → Bool
+is_first_slot_of_optional_word spot None = false
+is_first_slot_of_optional_word spot (Some word) = word.cell == spot.cell && word.first == spot.slot
 
-abbrev pub starts_line_at : DebugInfo → NodeId → ℕ → SlotAddress → Bool
-starts_line_at notes node line spot = is_line_start_slot spot (line_start_word notes node line)
+abbrev pub slot_starts_line : DebugInfo → NodeId → ℕ → SlotAddress → Bool
+slot_starts_line notes node line spot = is_first_slot_of_optional_word spot (first_code_word_of_line notes node line)
 
-abbrev pub starts_line_if_known : DebugInfo → NodeId → ℕ → Option SlotAddress → Bool
-starts_line_if_known notes node line None = false
-starts_line_if_known notes node line (Some spot) = starts_line_at notes node line spot
+abbrev pub optional_slot_starts_line : DebugInfo → NodeId → ℕ → Option SlotAddress → Bool
+optional_slot_starts_line notes node line None = false
+optional_slot_starts_line notes node line (Some spot) = slot_starts_line notes node line spot
 
 abbrev pub is_other_line : ℕ → Option ℕ → Bool
 is_other_line line None = true
@@ -75,25 +75,25 @@ is_other_line line (Some other) = not (other == line)
 -- the node came to the line from another, or by a jump to its first slot
 abbrev pub enters_line : DebugInfo → NodeId → Option SlotAddress → Option SlotAddress → Option Op → Option ℕ → Bool
 enters_line notes node before spot op None = false
-enters_line notes node before spot op (Some line) = is_other_line line (line_of_slot_address notes node before) || is_jump_op op && starts_line_if_known notes node line spot
+enters_line notes node before spot op (Some line) = is_other_line line (line_of_slot_address notes node before) || is_jump_op op && optional_slot_starts_line notes node line spot
 
 -- a line begins after the step with this number; calls that the node made after its first `n` steps are stepped over
-abbrev pub line_begins_after : ℕ → DebugInfo → State → NodeId → ℕ → Bool
-line_begins_after began notes s node k =
-    enters_line notes node (slot_address_after s node (previous_step_place began s node k)) (slot_address_after s node (k + 1)) (op_of_step s node k) (line_of_slot_address notes node (slot_address_after s node (k + 1)))
+abbrev pub begins_line_after_step : ℕ → DebugInfo → MachineState → NodeId → ℕ → Bool
+begins_line_after_step began notes s node k =
+    enters_line notes node (slot_address_after_steps s node (previous_step_count_over_calls began s node k)) (slot_address_after_steps s node (k + 1)) (op_of_step s node k) (line_of_slot_address notes node (slot_address_after_steps s node (k + 1)))
 
 -- the nearest beginning of a line at a place or before it, among at most `n` places; the load is one
-unfoldable pub nearest_line_start : DebugInfo → State → NodeId → ℕ → ℕ → ℕ
+unfoldable pub nearest_line_start : DebugInfo → MachineState → NodeId → ℕ → ℕ → ℕ
 nearest_line_start notes s node zero left = 0
 nearest_line_start notes s node (suc k) zero = 0
 nearest_line_start notes s node (suc k) (suc left) =
-    if line_begins_after 0 notes s node k then suc k else nearest_line_start notes s node (previous_step_place 0 s node k) left
+    if begins_line_after_step 0 notes s node k then suc k else nearest_line_start notes s node (previous_step_count_over_calls 0 s node k) left
 
 -- `stepBack` by a line: the node returns to the beginning of its line, or, if it is at the beginning of one, to that of the
 -- line before
-abbrev pub steps_at_line_start : DebugInfo → State → NodeId → ℕ → ℕ
-steps_at_line_start notes s node zero = 0
-steps_at_line_start notes s node (suc k) = nearest_line_start notes s node (previous_step_place 0 s node k) (suc k)
+abbrev pub step_count_at_line_start : DebugInfo → MachineState → NodeId → ℕ → ℕ
+step_count_at_line_start notes s node zero = 0
+step_count_at_line_start notes s node (suc k) = nearest_line_start notes s node (previous_step_count_over_calls 0 s node k) (suc k)
 
-abbrev pub state_after_line_back : DebugInfo → State → NodeId → State
-state_after_line_back notes s node = rolled_back_past s node (steps_at_line_start notes s node (count_steps node.number s.kept))
+abbrev pub state_after_line_rollback : DebugInfo → MachineState → NodeId → MachineState
+state_after_line_rollback notes s node = state_rolled_back_past_steps s node (step_count_at_line_start notes s node (count_steps node.number s.kept))

@@ -1,12 +1,12 @@
 //! Breakpoints, and where they stand.
 
 ghost use Rattle.std.specs.Prelude.{◌≡◌};
-ghost use Rattle.ga_debug_info.specs.Notes.{displayed_slot};
-ghost use Rattle.ga_dap_breakpoints.specs.Breakpoints.{slot_breakpoint, word_breakpoint, breakpoint_of_line, breakpoint_of_address};
+ghost use Rattle.ga_debug_info.specs.Notes.{slot_or_first_for_fetch};
+ghost use Rattle.ga_dap_breakpoints.specs.Breakpoints.{slot_breakpoint, source_word_breakpoint, breakpoint_of_line, breakpoint_of_address};
 
-use crate::back::Watched;
+use crate::back::WatchedAction;
 use crate::condition::HitCondition;
-use ga_dap_views::{SlotAddress, memory_cell};
+use ga_dap_views::{SlotAddress, memory_cell_of_address};
 use ga_debug_info::{DebugInfo, SlotWord};
 use ga_grid::NodeId;
 use ga_scheduler::ValueTest;
@@ -17,7 +17,7 @@ pub struct Breakpoint {
     /// The node.
     pub node: NodeId,
     /// What is watched: that the node comes to a slot, or writes a cell of its RAM.
-    pub watched: Watched,
+    pub watched: WatchedAction,
     /// What must hold of the node after the step that did what is watched.
     pub condition: Option<ValueTest>,
     /// Which of the events that did what is watched end a run.
@@ -39,7 +39,7 @@ fn slot_breakpoint(node: NodeId, cell: u8, slot: u8) -> Breakpoint
 {
     Breakpoint {
         node,
-        watched: Watched::ArrivesAtSlot(SlotAddress { cell, slot }),
+        watched: WatchedAction::ArrivesAtSlot(SlotAddress { cell, slot }),
         condition: None,
         hits: None,
     }
@@ -47,14 +47,14 @@ fn slot_breakpoint(node: NodeId, cell: u8, slot: u8) -> Breakpoint
 
 /// The slot that a word begins.
 fn slot_of(first: usize) -> u8
-    ensures { result ≡ displayed_slot first }
+    ensures { result ≡ slot_or_first_for_fetch first }
 {
     if first < 4 { first as u8 } else { 0 }
 }
 
 /// A breakpoint on the first slot of a word, with its line.
-fn word_breakpoint(word: SlotWord) -> LineBreakpoint
-    ensures { result ≡ word_breakpoint word }
+fn source_word_breakpoint(word: SlotWord) -> LineBreakpoint
+    ensures { result ≡ source_word_breakpoint word }
 {
     LineBreakpoint {
         breakpoint: slot_breakpoint(word.node, word.cell, slot_of(word.first)),
@@ -67,8 +67,8 @@ fn word_breakpoint(word: SlotWord) -> LineBreakpoint
 pub fn breakpoint_of_line(notes: &DebugInfo, line: u32) -> Option<LineBreakpoint>
     ensures { result ≡ breakpoint_of_line notes.now line }
 {
-    match notes.first_word(line) {
-        Some(word) => Some(word_breakpoint(word)),
+    match notes.find_first_slot_word_from_line(line) {
+        Some(word) => Some(source_word_breakpoint(word)),
         None => None,
     }
 }
@@ -77,7 +77,7 @@ pub fn breakpoint_of_line(notes: &DebugInfo, line: u32) -> Option<LineBreakpoint
 pub fn breakpoint_of_address(node: NodeId, address: u32) -> Option<Breakpoint>
     ensures { result ≡ breakpoint_of_address node address }
 {
-    match memory_cell(address) {
+    match memory_cell_of_address(address) {
         Some(cell) => Some(slot_breakpoint(node, cell, 0)),
         None => None,
     }

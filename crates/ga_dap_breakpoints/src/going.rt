@@ -1,30 +1,30 @@
 //! How a move ends, and `continue`.
 
 ghost use Rattle.std.specs.Prelude.{◌≡◌, ◌≤◌, None};
-ghost use Rattle.ga_scheduler.specs.Running.{running, run_after_events};
+ghost use Rattle.ga_scheduler.specs.Running.{scheduled_machine, run_after_events};
 ghost use Rattle.ga_dap_breakpoints.specs.Going.{IsMoveResult, tally_after_events, continue_plan};
-ghost use Rattle.ga_dap_breakpoints.specs.inner.Cells.{halt_by, halt_of};
+ghost use Rattle.ga_dap_breakpoints.specs.inner.Cells.{halt_reason_of_event, halt_reason_of_run};
 
-use crate::halts::{HaltConditions, HaltMonitor, is_ending_stop};
+use crate::halts::{HaltConditions, HaltMonitor, is_move_ending_stop};
 use crate::hits::HitTally;
-use ga_grid::{CHIP_NODES, NodeId};
-use ga_lab::{Lab, LabFault, Made};
+use ga_grid::{CHIP_NODE_COUNT, NodeId};
+use ga_lab::{Lab, LabFault, MadeEvent};
 use ga_scheduler::{Schedule, WatchedRun, WatchedRunEnd, run_watched};
 
 /// Why a move ended, or a slice of it.
 #[derive(Clone, Copy, PartialEq, Eq, Debug)]
 pub enum HaltReason {
     /// This event hit the breakpoint at this place of the list, the first of those that it hit.
-    Hit { made: Made, which: usize },
+    HitBreakpoint { made: MadeEvent, which: usize },
     /// This event was a stop, and hit no breakpoint.
-    Stopped(Made),
+    NodeStopped(MadeEvent),
     /// This event completed the move. It hit no breakpoint and is no stop that ends the move.
-    Moved(Made),
+    CompletedMove(MadeEvent),
     /// As many events were made as were asked for: the move can be gone on with.
-    Cut,
+    SliceEnded,
     /// No node of the chip has an event.
     Quiet,
-    /// [`Lab::step`] refused the next event: `Full`, `Spent` or `Memory`.
+    /// [`Lab::step`] refused the next event: `Full`, `EventNumbersSpent` or `Memory`.
     Refused(LabFault),
 }
 
@@ -42,26 +42,34 @@ pub struct MoveResult {
 }
 
 /// Why a move ended by an event.
-fn halt_by(halts: &HaltConditions<'_>, node: Option<NodeId>, made: Made) -> HaltReason
-    ensures { result ≡ halt_by halts.now.tally.hit halts.now.stops node made }
+fn halt_reason_of_event(
+    halts: &HaltConditions<'_>,
+    node: Option<NodeId>,
+    made: MadeEvent,
+) -> HaltReason
+    ensures { result ≡ halt_reason_of_event halts.now.tally.hit halts.now.stops node made }
 {
     if let Some(which) = halts.tally.hit {
-        return HaltReason::Hit { made, which };
+        return HaltReason::HitBreakpoint { made, which };
     }
-    if is_ending_stop(halts.stops, node, &made) {
-        HaltReason::Stopped(made)
+    if is_move_ending_stop(halts.stops, node, &made) {
+        HaltReason::NodeStopped(made)
     } else {
-        HaltReason::Moved(made)
+        HaltReason::CompletedMove(made)
     }
 }
 
 /// Why a move ended, by how its run did.
-fn halt_of(halts: &HaltConditions<'_>, node: Option<NodeId>, end: WatchedRunEnd) -> HaltReason
-    ensures { result ≡ halt_of halts.now.tally.hit halts.now.stops node end }
+fn halt_reason_of_run(
+    halts: &HaltConditions<'_>,
+    node: Option<NodeId>,
+    end: WatchedRunEnd,
+) -> HaltReason
+    ensures { result ≡ halt_reason_of_run halts.now.tally.hit halts.now.stops node end }
 {
     match end {
-        WatchedRunEnd::Seen(made) => halt_by(halts, node, made),
-        WatchedRunEnd::Made => HaltReason::Cut,
+        WatchedRunEnd::EndedByWatch(made) => halt_reason_of_event(halts, node, made),
+        WatchedRunEnd::Made => HaltReason::SliceEnded,
         WatchedRunEnd::Quiet => HaltReason::Quiet,
         WatchedRunEnd::Refused(why) => HaltReason::Refused(why),
     }
@@ -74,13 +82,13 @@ pub(crate) fn move_result(
     node: Option<NodeId>,
 ) -> MoveResult
     ensures events { result.events ≡ run.events }
-    ensures halt { result.halt ≡ halt_of halts.now.tally.hit halts.now.stops node run.end }
+    ensures halt { result.halt ≡ halt_reason_of_run halts.now.tally.hit halts.now.stops node run.end }
     ensures schedule { result.schedule ≡ run.schedule }
     ensures tally { result.tally ≡ halts.now.tally }
 {
     MoveResult {
         events: run.events,
-        halt: halt_of(halts, node, run.end),
+        halt: halt_reason_of_run(halts, node, run.end),
         schedule: run.schedule,
         tally: halts.tally,
     }
@@ -90,22 +98,22 @@ pub(crate) fn move_result(
 /// one hits a breakpoint, or is a stop if stops end it. The returned schedule continues a slice that was cut. The time is
 /// linear in the number of events and in the number of breakpoints; in addition, for each node that arrives at the slot number
 /// of a breakpoint, once in a slice, in how long it is within its word.
-pub fn continue_run(
+pub fn make_continue_slice(
     lab: &mut Lab,
     schedule: Schedule,
     halts: HaltConditions<'_>,
     most: u64,
 ) -> MoveResult
-    ensures state { running lab.new result.schedule ≡ run_after_events (running lab.old schedule) result.events }
-    ensures hits { result.tally ≡ tally_after_events None halts.entry.breakpoints.now halts.entry.tally (running lab.old schedule) result.events }
+    ensures state { scheduled_machine lab.new result.schedule ≡ run_after_events (scheduled_machine lab.old schedule) result.events }
+    ensures hits { result.tally ≡ tally_after_events None halts.entry.breakpoints.now halts.entry.tally (scheduled_machine lab.old schedule) result.events }
     ensures most { result.events ≤ most }
-    ensures end { IsMoveResult (continue_plan halts.entry.breakpoints.now halts.entry.tally halts.entry.stops (running lab.old schedule)) (running lab.old schedule) most result.events result.halt }
+    ensures end { IsMoveResult (continue_plan halts.entry.breakpoints.now halts.entry.tally halts.entry.stops (scheduled_machine lab.old schedule)) (scheduled_machine lab.old schedule) most result.events result.halt }
 {
     // It is called for its contract only: the history can be replayed.
     lab.chip();
     let mut watch = HaltMonitor {
         halts,
-        cells: [None; CHIP_NODES],
+        cells: [None; CHIP_NODE_COUNT],
     };
     let run = run_watched(lab, schedule, None, most, &mut watch);
     move_result(run, &watch.halts, None)

@@ -15,14 +15,14 @@ mod reversing;
 mod stepping;
 mod words;
 
-pub use back::{Watched, reaches_slot, roll_back_past, step_back};
+pub use back::{WatchedAction, reaches_slot, roll_back_past_steps, step_back};
 pub use breakpoint::{Breakpoint, LineBreakpoint, breakpoint_of_address, breakpoint_of_line};
 pub use condition::HitCondition;
-pub use going::{HaltReason, MoveResult, continue_run};
+pub use going::{HaltReason, MoveResult, make_continue_slice};
 pub use halts::HaltConditions;
 pub use hits::{HitTally, MAX_COUNTED_BREAKPOINTS};
 pub use lines::step_back_line;
-pub use moves::continue_step;
+pub use moves::make_step_slice;
 pub use parsing::parse_hit_condition;
-pub use reversing::{count_kept_hits, is_hit_by_newest_event, reverse_to_breakpoint};
+pub use reversing::{count_hits_in_history, is_event_hit_meeting_condition, reverse_to_breakpoint};
 pub use stepping::{Granularity, StepMove};

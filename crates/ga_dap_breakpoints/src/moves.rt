@@ -3,24 +3,24 @@
 ghost use Rattle.std.specs.Prelude.{◌≡◌, ◌-◌, ◌<◌, ◌≤◌, ◌&&◌, Some, true, position};
 ghost use Rattle.ga_event.specs.Told.{count_steps};
 ghost use Rattle.ga_scheduler.specs.Conditions.{is_step_of_node};
-ghost use Rattle.ga_scheduler.specs.Running.{running};
-ghost use Rattle.ga_scheduler.specs.Watched.{IsReportOfNewestEvent, precedence_run_after};
-ghost use Rattle.ga_dap_views.specs.Calls.{is_call_step, return_entry_sources};
+ghost use Rattle.ga_scheduler.specs.Running.{scheduled_machine};
+ghost use Rattle.ga_scheduler.specs.Watched.{IsReportOfNewestEvent, run_after_events_with_precedence};
+ghost use Rattle.ga_dap_views.specs.Calls.{is_call_step, previous_return_entry_indices};
 ghost use Rattle.ga_provenance.specs.Fetched.{fetched_cell};
 ghost use Rattle.ga_dap_breakpoints.specs.declared.stepping.Granularity.TheVariants.{Line};
-ghost use Rattle.ga_dap_breakpoints.specs.Stepping.{is_entry_source, pending_call_after_step, move_after_event, move_after_events};
-ghost use Rattle.ga_dap_breakpoints.specs.inner.Words.{word_seen, reaches_by, is_moved_by};
+ghost use Rattle.ga_dap_breakpoints.specs.Stepping.{is_previous_return_entry_index, pending_call_after_step, move_after_event, move_after_events};
+ghost use Rattle.ga_dap_breakpoints.specs.inner.Words.{instruction_cell_after_event, reaches_move_end_by_cell, completes_move_by_cell};
 ghost use Rattle.ga_dap_breakpoints.specs.Going.{IsMoveResult, tally_after_events, step_plan};
 
 use crate::going::{MoveResult, move_result};
 use crate::halts::{HaltConditions, HaltMonitor, check_halt};
-use crate::lines::begins_by;
+use crate::lines::begins_line_by_cells;
 use crate::stepping::{Granularity, StepMove};
-use crate::words::{instruction_cell_after, word_after};
-use ga_dap_views::{is_call_step, return_entry_sources};
+use crate::words::{instruction_cell_after, instruction_cell_after_step};
+use ga_dap_views::{is_call_step, previous_return_entry_indices};
 use ga_debug_info::DebugInfo;
-use ga_grid::{CHIP_NODES, NodeId};
-use ga_lab::{Lab, Made};
+use ga_grid::{CHIP_NODE_COUNT, NodeId};
+use ga_lab::{Lab, MadeEvent};
 use ga_scheduler::{Schedule, StopCondition, is_step_of_node, run_watched};
 
 /// What watches a move.
@@ -34,8 +34,8 @@ struct Steps<'a> {
 }
 
 /// Whether an entry of the return stack stood at this place before.
-fn is_entry_source(from: Option<u8>, place: usize) -> bool
-    ensures { result ≡ is_entry_source place from }
+fn is_previous_return_entry_index(from: Option<u8>, place: usize) -> bool
+    ensures { result ≡ is_previous_return_entry_index place from }
 {
     match from {
         Some(from) => usize::from(from) == place,
@@ -45,13 +45,13 @@ fn is_entry_source(from: Option<u8>, place: usize) -> bool
 
 /// The place of the entry after the node's newest step, if it was at `place` before.
 fn place_behind(lab: &Lab, node: NodeId, place: usize) -> Option<usize>
-    ensures { result ≡ position (is_entry_source place) (return_entry_sources lab.now node (count_steps node.number lab.now.kept - 1)) }
+    ensures { result ≡ position (is_previous_return_entry_index place) (previous_return_entry_indices lab.now node (count_steps node.number lab.now.kept - 1)) }
 {
     let steps = lab.steps(node);
-    let entries = return_entry_sources(lab, node, steps.saturating_sub(1));
+    let entries = previous_return_entry_indices(lab, node, steps.saturating_sub(1));
     entries
         .iter()
-        .position(|from| is_entry_source(*from, place))
+        .position(|from| is_previous_return_entry_index(*from, place))
 }
 
 /// Whether the node's newest step was a call and calls are stepped over.
@@ -83,7 +83,7 @@ fn pending_call_after_step(
 }
 
 /// By how many steps of a node its newest one was preceded, where the newest event is one.
-fn newest_step(lab: &Lab, made: &Made, node: NodeId) -> u32
+fn newest_step(lab: &Lab, made: &MadeEvent, node: NodeId) -> u32
     requires newest { IsReportOfNewestEvent lab.now made.now }
     requires own { is_step_of_node node.number made.now ≡ true }
     ensures step { result ≡ count_steps node.number lab.now.kept - 1 }
@@ -95,7 +95,7 @@ fn newest_step(lab: &Lab, made: &Made, node: NodeId) -> u32
 }
 
 /// A move after the newest event.
-fn move_after_event(lab: &Lab, by: StepMove, made: &Made) -> StepMove
+fn move_after_event(lab: &Lab, by: StepMove, made: &MadeEvent) -> StepMove
     ensures { result ≡ move_after_event by made.now lab.now }
 {
     if !is_step_of_node(made, by.node) {
@@ -106,20 +106,25 @@ fn move_after_event(lab: &Lab, by: StepMove, made: &Made) -> StepMove
 }
 
 /// The cell from which a node's word came, after the newest event, if the word before it came from `word`.
-fn word_seen(lab: &Lab, node: NodeId, word: Option<u8>, made: &Made) -> Option<u8>
+fn instruction_cell_after_event(
+    lab: &Lab,
+    node: NodeId,
+    word: Option<u8>,
+    made: &MadeEvent,
+) -> Option<u8>
     requires { IsReportOfNewestEvent lab.now made.now }
-    ensures { result ≡ word_seen node word made.now lab.now }
+    ensures { result ≡ instruction_cell_after_event node word made.now lab.now }
 {
     if !is_step_of_node(made, node) {
         return word;
     }
     let step = newest_step(lab, made, node);
-    let walk = lab.walk(node, step);
-    word_after(lab, &walk, node, word)
+    let walk = lab.walk_node_from_step(node, step);
+    instruction_cell_after_step(lab, &walk, node, word)
 }
 
 /// Whether a move of this granularity can end by a step of a node, by the cells of the words before and after it.
-fn reaches_by(
+fn reaches_move_end_by_cell(
     lab: &Lab,
     notes: &DebugInfo,
     node: NodeId,
@@ -130,29 +135,29 @@ fn reaches_by(
     behind: Option<u8>,
 ) -> bool
     requires { step < count_steps node.number lab.now.kept }
-    ensures { result ≡ reaches_by grain began notes.now node lab.now step before behind }
+    ensures { result ≡ reaches_move_end_by_cell grain began notes.now node lab.now step before behind }
 {
     match grain {
         Granularity::Instruction => true,
-        Granularity::Line => begins_by(lab, notes, node, step, began, before, behind),
+        Granularity::Line => begins_line_by_cells(lab, notes, node, step, began, before, behind),
     }
 }
 
 /// Whether the newest event completes a move, with the call from which the node is to return after it, by the cells of the
 /// words before and after the event.
-fn is_moved_by(
+fn completes_move_by_cell(
     lab: &Lab,
     notes: &DebugInfo,
     by: &StepMove,
     call: Option<usize>,
     before: Option<u8>,
     behind: Option<u8>,
-    made: &Made,
+    made: &MadeEvent,
 ) -> bool
     requires newest { IsReportOfNewestEvent lab.now made.now }
     requires call { is_step_of_node by.now.node.number made.now ≡ true → call ≡ pending_call_after_step lab.now by.now.node by.now.over by.now.call }
-    requires behind { behind ≡ word_seen by.now.node before made.now lab.now }
-    ensures { result ≡ is_moved_by notes.now by.now before made.now lab.now }
+    requires behind { behind ≡ instruction_cell_after_event by.now.node before made.now lab.now }
+    ensures { result ≡ completes_move_by_cell notes.now by.now before made.now lab.now }
 {
     if !is_step_of_node(made, by.node) {
         return false;
@@ -161,30 +166,30 @@ fn is_moved_by(
         return false;
     }
     let step = newest_step(lab, made, by.node);
-    reaches_by(
+    reaches_move_end_by_cell(
         lab, notes, by.node, by.grain, by.began, step, before, behind,
     )
 }
 
 impl<'a> StopCondition for Steps<'a> {
     ghost use Rattle.std.specs.Prelude.{Some, ◌||◌};
-    ghost use Rattle.ga_dap_breakpoints.specs.inner.Cells.{ends_by, with_hits};
+    ghost use Rattle.ga_dap_breakpoints.specs.inner.Cells.{ends_move_early_by_cells, halt_monitor_after_event};
     ghost use Rattle.ga_dap_breakpoints.specs.Stepping.{move_after_event};
-    ghost use Rattle.ga_dap_breakpoints.specs.inner.Words.{word_seen, is_moved_by};
+    ghost use Rattle.ga_dap_breakpoints.specs.inner.Words.{instruction_cell_after_event, completes_move_by_cell};
 
-    ghost ends = { λ w told s. ends_by w.halting.halts.breakpoints.now w.halting.cells w.halting.halts.tally w.halting.halts.stops (Some w.stepping.node) told s || is_moved_by w.notes.now w.stepping w.word told s };
+    ghost ends = { λ w told s. ends_move_early_by_cells w.halting.halts.breakpoints.now w.halting.cells w.halting.halts.tally w.halting.halts.stops (Some w.stepping.node) told s || completes_move_by_cell w.notes.now w.stepping w.word told s };
 
-    ghost seen = { λ w told s. record w { halting = with_hits w.halting told s; stepping = move_after_event w.stepping told s; word = word_seen w.stepping.node w.word told s } };
+    ghost seen = { λ w told s. record w { halting = halt_monitor_after_event w.halting told s; stepping = move_after_event w.stepping told s; word = instruction_cell_after_event w.stepping.node w.word told s } };
 
-    fn sees(&mut self, made: &Made, lab: &Lab) -> bool {
+    fn ends_run_after_event(&mut self, made: &MadeEvent, lab: &Lab) -> bool {
         let by = self.stepping;
         let before = self.word;
         let next = move_after_event(lab, by, made);
-        let behind = word_seen(lab, by.node, before, made);
+        let behind = instruction_cell_after_event(lab, by.node, before, made);
         self.stepping = next;
         self.word = behind;
         check_halt(&mut self.halting, Some(by.node), made, lab)
-            || is_moved_by(lab, self.notes, &by, next.call, before, behind, made)
+            || completes_move_by_cell(lab, self.notes, &by, next.call, before, behind, made)
     }
 }
 
@@ -203,7 +208,7 @@ fn word_begun(lab: &Lab, by: &StepMove) -> Option<u8>
 /// or a stop ends it. The same move and the returned schedule continue a slice that was cut. The time is linear in the number
 /// of events and of breakpoints; in addition in how long each node that arrives at the slot number of a breakpoint is within
 /// its word, and for a move by lines, once in a slice, in how long the node is within its word and in the length of its calls.
-pub fn continue_step(
+pub fn make_step_slice(
     lab: &mut Lab,
     schedule: Schedule,
     stepping: &mut StepMove,
@@ -211,11 +216,11 @@ pub fn continue_step(
     halts: HaltConditions<'_>,
     most: u64,
 ) -> MoveResult
-    ensures state { running lab.new result.schedule ≡ precedence_run_after (Some stepping.old.node) (running lab.old schedule) result.events }
-    ensures stepping { stepping.new ≡ move_after_events stepping.old (running lab.old schedule) result.events }
-    ensures hits { result.tally ≡ tally_after_events (Some stepping.old.node) halts.entry.breakpoints.now halts.entry.tally (running lab.old schedule) result.events }
+    ensures state { scheduled_machine lab.new result.schedule ≡ run_after_events_with_precedence (Some stepping.old.node) (scheduled_machine lab.old schedule) result.events }
+    ensures stepping { stepping.new ≡ move_after_events stepping.old (scheduled_machine lab.old schedule) result.events }
+    ensures hits { result.tally ≡ tally_after_events (Some stepping.old.node) halts.entry.breakpoints.now halts.entry.tally (scheduled_machine lab.old schedule) result.events }
     ensures most { result.events ≤ most }
-    ensures end { IsMoveResult (step_plan notes.now halts.entry.breakpoints.now halts.entry.tally halts.entry.stops stepping.old (running lab.old schedule)) (running lab.old schedule) most result.events result.halt }
+    ensures end { IsMoveResult (step_plan notes.now halts.entry.breakpoints.now halts.entry.tally halts.entry.stops stepping.old (scheduled_machine lab.old schedule)) (scheduled_machine lab.old schedule) most result.events result.halt }
 {
     let node = stepping.node;
     // It is called for its contract only: the history can be replayed.
@@ -224,7 +229,7 @@ pub fn continue_step(
         notes,
         halting: HaltMonitor {
             halts,
-            cells: [None; CHIP_NODES],
+            cells: [None; CHIP_NODE_COUNT],
         },
         stepping: *stepping,
         word: word_begun(lab, stepping),

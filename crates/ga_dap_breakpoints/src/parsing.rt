@@ -1,14 +1,14 @@
 //! Hit conditions as a client says them.
 
 ghost use Rattle.std.specs.Prelude.{◌≡◌};
-ghost use Rattle.ga_dap_breakpoints.specs.Saying.{hit_number, hit_condition_by_operator, parse_hit_condition};
+ghost use Rattle.ga_dap_breakpoints.specs.Saying.{parse_hit_number, hit_condition_by_operator, parse_hit_condition};
 
 use crate::condition::HitCondition;
 use ga_text::{parse_number, split_at_space};
 
 /// A number of hits.
-fn hit_number(text: &[u8]) -> Option<u32>
-    ensures { result ≡ hit_number text.now }
+fn parse_hit_number(text: &[u8]) -> Option<u32>
+    ensures { result ≡ parse_hit_number text.now }
 {
     let number = parse_number(text)?;
     if number == 0 { None } else { Some(number) }
@@ -19,9 +19,9 @@ fn hit_condition_by_operator(sign: &[u8], number: u32) -> Option<HitCondition>
     ensures { result ≡ hit_condition_by_operator sign.now number }
 {
     if sign == b">=".as_slice() {
-        Some(HitCondition::From(number))
+        Some(HitCondition::FromHitNumber(number))
     } else if sign == b"%".as_slice() {
-        Some(HitCondition::Each(number))
+        Some(HitCondition::EachMultipleOf(number))
     } else {
         None
     }
@@ -32,7 +32,7 @@ pub fn parse_hit_condition(text: &[u8]) -> Option<HitCondition>
     ensures { result ≡ parse_hit_condition text.now }
 {
     match split_at_space(text) {
-        Some((sign, number)) => hit_condition_by_operator(sign, hit_number(number)?),
-        None => Some(HitCondition::Only(hit_number(text)?)),
+        Some((sign, number)) => hit_condition_by_operator(sign, parse_hit_number(number)?),
+        None => Some(HitCondition::OnlyHitNumber(parse_hit_number(text)?)),
     }
 }

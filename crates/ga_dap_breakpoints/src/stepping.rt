@@ -3,9 +3,9 @@
 ghost use Rattle.std.specs.Prelude.{◌≡◌, ◌==◌, ◌-◌, ◌<◌, map, IfSome};
 ghost use Rattle.std.specs.List.{range_with_len};
 ghost use Rattle.ga_event.specs.Told.{count_steps};
-ghost use Rattle.ga_dap_breakpoints.specs.Stepping.{is_open_call_at, newest_open_call_place};
+ghost use Rattle.ga_dap_breakpoints.specs.Stepping.{is_open_call_at, newest_open_call_entry_index};
 
-use ga_dap_views::{is_call_step, pushed_by_step};
+use ga_dap_views::{is_call_step, step_pushing_return_entry};
 use ga_grid::NodeId;
 use ga_lab::Lab;
 
@@ -39,20 +39,20 @@ fn is_open_call_at(lab: &Lab, node: NodeId, place: u8) -> bool
     requires { place < 9 }
     ensures { result ≡ is_open_call_at lab.now node place }
 {
-    let step = pushed_by_step(lab, node, lab.steps(node), place);
+    let step = step_pushing_return_entry(lab, node, lab.steps(node), place);
     is_call_step(lab, node, step)
 }
 
 /// The place of the newest call from which a node did not come back.
-fn newest_open_call_place(lab: &Lab, node: NodeId) -> Option<usize>
-    ensures { result ≡ newest_open_call_place lab.now node }
+fn newest_open_call_entry_index(lab: &Lab, node: NodeId) -> Option<usize>
+    ensures { result ≡ newest_open_call_entry_index lab.now node }
 {
     (0..9).position(|place| is_open_call_at(lab, node, place))
 }
 
 impl StepMove {
     ghost use Rattle.std.specs.Prelude.{◌≡◌};
-    ghost use Rattle.ga_dap_breakpoints.specs.Stepping.{step_in, step_over, step_out_from, step_out};
+    ghost use Rattle.ga_dap_breakpoints.specs.Stepping.{step_in, step_over, step_out_from_call, step_out};
 
     /// `stepIn` (Debug Adapter Protocol, "StepInRequest").
     pub fn step_in(lab: &Lab, node: NodeId, grain: Granularity) -> Self
@@ -81,8 +81,8 @@ impl StepMove {
     }
 
     /// A move that returns from a call, by the place of its entry.
-    fn step_out_from(lab: &Lab, node: NodeId, newest: usize) -> Self
-        ensures { result ≡ step_out_from lab.now node newest }
+    fn step_out_from_call(lab: &Lab, node: NodeId, newest: usize) -> Self
+        ensures { result ≡ step_out_from_call lab.now node newest }
     {
         StepMove {
             node,
@@ -98,8 +98,8 @@ impl StepMove {
     pub fn step_out(lab: &Lab, node: NodeId) -> Option<Self>
         ensures { result ≡ step_out lab.now node }
     {
-        match newest_open_call_place(lab, node) {
-            Some(newest) => Some(StepMove::step_out_from(lab, node, newest)),
+        match newest_open_call_entry_index(lab, node) {
+            Some(newest) => Some(StepMove::step_out_from_call(lab, node, newest)),
             None => None,
         }
     }

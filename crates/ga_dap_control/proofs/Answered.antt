@@ -4,62 +4,62 @@ use Rattle.std.specs.Prelude.{OnOk, codes}
 use Rattle.std.specs.List.{list_all, list_any}
 use Rattle.std.proofs.lemmas.Bool.{cases_eq}
 use Rattle.ga_debug_info.specs.declared.notes.DebugInfo.{DebugInfo}
-use Rattle.ga_scheduler.specs.Running.{Running}
+use Rattle.ga_scheduler.specs.Running.{ScheduledMachine}
 use Rattle.ga_dap_breakpoints.specs.declared.breakpoint.Breakpoint.{Breakpoint}
 use Rattle.ga_grid.specs.declared.node_id.NodeId.{NodeId}
 use Rattle.ga_dap_breakpoints.specs.declared.going.HaltReason.{HaltReason}
 use Rattle.ga_dap_breakpoints.specs.declared.hits.HitTally.{HitTally}
 use Rattle.ga_dap_breakpoints.specs.Going.{IsMoveResult, tally_after_events, continue_plan, step_plan}
-use Rattle.ga_dap_protocol.specs.Sent.{SentMessages}
+use Rattle.ga_dap_protocol.specs.Sent.{OutboxContent}
 use Rattle.ga_dap_protocol.specs.declared.request.ClientRequest.{ClientRequest}
 use Rattle.ga_dap_breakpoints.specs.declared.stepping.StepMove.{StepMove}
-use Rattle.ga_dap_queries.specs.Events.{thread_change_messages, thread_changes_below}
+use Rattle.ga_dap_queries.specs.Events.{thread_change_messages, thread_change_messages_below}
 use Rattle.ga_dap_queries.specs.Sending.{Message, Messages, SendsMessage, SendsMessages, refused_response}
 use Rattle.ga_dap_queries.specs.declared.request_name.RequestName.{RequestName}
 use Rattle.ga_dap_queries.specs.declared.debuggee.Debuggee.{Debuggee}
 use Rattle.ga_dap_queries.proofs.Sent.{sent_one}
 use Rattle.ga_dap_control.specs.declared.configuration.Configuration.{Configuration}
 use Rattle.ga_dap_control.specs.declared.execution.Execution.{Execution}
-use Rattle.ga_dap_control.specs.declared.launched.LaunchedProgram.{LaunchedProgram}
+use Rattle.ga_dap_control.specs.declared.launched.LaunchedSession.{LaunchedSession}
 use Rattle.ga_dap_control.specs.declared.moving.DapStepKind.{DapStepKind}
 use Rattle.ga_dap_control.specs.Breakpoints.{SetsLineBreakpointsIfOwnFile}
 use Rattle.ga_dap_control.specs.Moving.{BeginsStep, BeginsStepMove, BeginsStepUnlessStopped}
 use Rattle.ga_dap_control.specs.Requests.{SendsOneResponse, ChangesExecution, AnswersStep, ChangesConfiguration, AnswersImmediateRequest}
 
-pub only_answers : {T E : Type 0} → (Answers : Message → Type 0) (r : Result T E) (l new : LaunchedProgram) (old out : SentMessages)
+pub only_answers : {T E : Type 0} → (Answers : Message → Type 0) (r : Result T E) (l new : LaunchedSession) (old out : OutboxContent)
     → OnOk r ((message : Message) × Answers message × SendsMessage old message out) → new ≡ l → OnOk r ((messages : Messages) × SendsOneResponse Answers l messages new × SendsMessages old messages out)
 only_answers Answers (Ok x) l new old out p same = (p.0 ∷ [], (p.0, p.1, refl, same), sent_one old p.0 out p.2)
 only_answers Answers (Err e) l new old out p same = tt
 
-pub moves_so : {T E : Type 0} → (Begins : Messages → Execution → Type 0) (r : Result T E) (l new : LaunchedProgram) (execution : Execution) (old out : SentMessages)
+pub moves_so : {T E : Type 0} → (Begins : Messages → Execution → Type 0) (r : Result T E) (l new : LaunchedSession) (execution : Execution) (old out : OutboxContent)
     → OnOk r ((messages : Messages) × Begins messages execution × SendsMessages old messages out) → new ≡ record l { execution = execution }
     → OnOk r ((messages : Messages) × ChangesExecution Begins l messages new × SendsMessages old messages out)
 moves_so Begins (Ok x) l new execution old out p same = (p.0, (execution, p.1, same), p.2)
 moves_so Begins (Err e) l new execution old out p same = tt
 
-pub steps_so : {T E : Type 0} → (kind : DapStepKind) (r : Result T E) (l new : LaunchedProgram) (request : ClientRequest) (execution : Execution) (old out : SentMessages)
+pub steps_so : {T E : Type 0} → (kind : DapStepKind) (r : Result T E) (l new : LaunchedSession) (request : ClientRequest) (execution : Execution) (old out : OutboxContent)
     → OnOk r ((message : Message) × BeginsStep l.program kind l.execution request message execution × SendsMessage old message out) → new ≡ record l { execution = execution }
     → OnOk r ((messages : Messages) × AnswersStep kind l request messages new × SendsMessages old messages out)
 steps_so kind (Ok x) l new request execution old out p same = (p.0 ∷ [], (p.0, execution, p.1, refl, same), sent_one old p.0 out p.2)
 steps_so kind (Err e) l new request execution old out p same = tt
 
 -- a request that is answered nowhere is refused, and what was launched stays
-pub unknown_refused : {T E : Type 0} → (r : Result T E) (l : LaunchedProgram) (request : ClientRequest) (old out : SentMessages)
+pub unknown_refused : {T E : Type 0} → (r : Result T E) (l : LaunchedSession) (request : ClientRequest) (old out : OutboxContent)
     → OnOk r (SendsMessage old (refused_response request (codes "no such request")) out)
     → OnOk r ((messages : Messages) × ((messages ≡ refused_response request (codes "no such request") ∷ []) × (l ≡ l)) × SendsMessages old messages out)
 unknown_refused (Ok x) l request old out sent = (refused_response request (codes "no such request") ∷ [], (refl, refl), sent_one old (refused_response request (codes "no such request")) out sent)
 unknown_refused (Err e) l request old out sent = tt
 
 -- what the client set is set, and hits are counted anew
-abbrev set_anew : LaunchedProgram → Configuration → LaunchedProgram
+abbrev set_anew : LaunchedSession → Configuration → LaunchedSession
 set_anew l settings = record l { settings = settings; execution = record l.execution { tally = None } }
 
-pub sets_so : (Becomes : Message → Configuration → Type 0) (l : LaunchedProgram) (settings : Configuration) (old out : SentMessages)
+pub sets_so : (Becomes : Message → Configuration → Type 0) (l : LaunchedSession) (settings : Configuration) (old out : OutboxContent)
     → ((message : Message) × Becomes message settings × SendsMessage old message out)
     → (messages : Messages) × ChangesConfiguration Becomes l messages (set_anew l settings) × SendsMessages old messages out
 sets_so Becomes l settings old out p = (p.0 ∷ [], (p.0, settings, p.1, refl, refl), sent_one old p.0 out p.2)
 
-pub with_command : {T E : Type 0} → (r : Result T E) (a b : RequestName) (l : LaunchedProgram) (request : ClientRequest) (new : LaunchedProgram) (old out : SentMessages) → b ≡ a
+pub with_command : {T E : Type 0} → (r : Result T E) (a b : RequestName) (l : LaunchedSession) (request : ClientRequest) (new : LaunchedSession) (old out : OutboxContent) → b ≡ a
     → OnOk r ((messages : Messages) × AnswersImmediateRequest a l request messages new × SendsMessages old messages out)
     → OnOk r ((messages : Messages) × AnswersImmediateRequest b l request messages new × SendsMessages old messages out)
 with_command r a b l request new old out e p =
@@ -78,20 +78,20 @@ pub lines_if : (b own : Bool) (p : Debuggee) (set : Configuration) (request : Cl
 lines_if b own p set request message new to e is sets = subst (λ (z : Bool). SetsLineBreakpointsIfOwnFile z p set request message new) (sym is ∙ e) sets
 
 -- marks that are the same change the same
-pub changed_alike : (f g now : ℕ → Bool) → ((n : ℕ) → f n ≡ g n) → (k : ℕ) → thread_changes_below f now k ≡ thread_changes_below g now k
-unfolding thread_changes_below
+pub changed_alike : (f g now : ℕ → Bool) → ((n : ℕ) → f n ≡ g n) → (k : ℕ) → thread_change_messages_below f now k ≡ thread_change_messages_below g now k
+unfolding thread_change_messages_below
 changed_alike f g now same zero = refl
 changed_alike f g now same (suc n) =
     ap (λ (z : List Message). z ++ thread_change_messages (f n) (now n) n) (changed_alike f g now same n)
-    ∙ ap (λ (z : Bool). thread_changes_below g now n ++ thread_change_messages z (now n) n) (same n)
+    ∙ ap (λ (z : Bool). thread_change_messages_below g now n ++ thread_change_messages z (now n) n) (same n)
 
-pub gone_by : (a b : List Breakpoint) (u v : HitTally) (s t : Bool) (r : Running) (most events : ℕ) (halt : HaltReason) → a ≡ b → u ≡ v → s ≡ t
+pub gone_by : (a b : List Breakpoint) (u v : HitTally) (s t : Bool) (r : ScheduledMachine) (most events : ℕ) (halt : HaltReason) → a ≡ b → u ≡ v → s ≡ t
     → IsMoveResult (continue_plan a u s r) r most events halt → IsMoveResult (continue_plan b v t r) r most events halt
 gone_by a b u v s t r most events halt e g f p =
     subst (λ (z : List Breakpoint). IsMoveResult (continue_plan z v t r) r most events halt) e
     (subst (λ (z : HitTally). IsMoveResult (continue_plan a z t r) r most events halt) g (subst (λ (z : Bool). IsMoveResult (continue_plan a u z r) r most events halt) f p))
 
-pub stepped_so : (notes : DebugInfo) (a b : List Breakpoint) (u v : HitTally) (s t : Bool) (by : StepMove) (r : Running) (most events : ℕ) (halt : HaltReason) → a ≡ b → u ≡ v → s ≡ t
+pub stepped_so : (notes : DebugInfo) (a b : List Breakpoint) (u v : HitTally) (s t : Bool) (by : StepMove) (r : ScheduledMachine) (most events : ℕ) (halt : HaltReason) → a ≡ b → u ≡ v → s ≡ t
     → IsMoveResult (step_plan notes a u s by r) r most events halt → IsMoveResult (step_plan notes b v t by r) r most events halt
 stepped_so notes a b u v s t by r most events halt e g f p =
     subst (λ (z : List Breakpoint). IsMoveResult (step_plan notes z v t by r) r most events halt) e
@@ -99,7 +99,7 @@ stepped_so notes a b u v s t by r most events halt e g f p =
     (subst (λ (z : Bool). IsMoveResult (step_plan notes a u z by r) r most events halt) f p))
 
 -- what was hit so often, by what counted it
-pub hits_so : (first : Option NodeId) (a b : List Breakpoint) (u v : HitTally) (r : Running) (events : ℕ) (tally : HitTally) → a ≡ b → u ≡ v
+pub hits_so : (first : Option NodeId) (a b : List Breakpoint) (u v : HitTally) (r : ScheduledMachine) (events : ℕ) (tally : HitTally) → a ≡ b → u ≡ v
     → tally ≡ tally_after_events first a u r events → tally ≡ tally_after_events first b v r events
 hits_so first a b u v r events tally e g is =
     is ∙ ap (λ (z : List Breakpoint). tally_after_events first z u r events) e ∙ ap (λ (z : HitTally). tally_after_events first b z r events) g

@@ -8,7 +8,7 @@ use Rattle.serde_json.specs.declared.value.Value.{Value}
 use Rattle.ga_dap_protocol.specs.declared.request.ClientRequest.{ClientRequest}
 use Rattle.ga_dap_queries.specs.declared.debuggee.Debuggee.{Debuggee}
 use Rattle.ga_dap_queries.specs.Sending.{Message}
-use Rattle.ga_dap_control.specs.Breakpoints.{is_exception_filter_name, SetsFiltersIfKnown}
+use Rattle.ga_dap_control.specs.Breakpoints.{is_exception_filter_name, SetsExceptionFiltersIfKnown}
 use Rattle.ga_dap_control.specs.declared.configuration.Configuration.{Configuration}
 use Rattle.ga_dap_control.specs.declared.configuration.PlacedBreakpoint.{PlacedBreakpoint}
 use Rattle.ga_dap_control.specs.declared.configuration.BreakpointKind.{BreakpointKind}
@@ -31,10 +31,10 @@ placed_so p kind xs ys start placed kept next final e begun same places =
     subst (λ (z : BreakpointPlacement). PlacesBreakpoints p kind ys z final) from (subst (λ (z : List Data). PlacesBreakpoints p kind z start final) e places)
 
 pub filters_so : (a b : List Data) (known : Bool) (set : Configuration) (request : ClientRequest) (message : Message) (new : Configuration) → a ≡ b
-    → known ≡ list_all is_exception_filter_name a → SetsFiltersIfKnown known a set request message new → SetsFiltersIfKnown (list_all is_exception_filter_name b) b set request message new
+    → known ≡ list_all is_exception_filter_name a → SetsExceptionFiltersIfKnown known a set request message new → SetsExceptionFiltersIfKnown (list_all is_exception_filter_name b) b set request message new
 filters_so a b known set request message new e is sets =
-    subst (λ (z : List Data). SetsFiltersIfKnown (list_all is_exception_filter_name z) z set request message new) e
-    (subst (λ (z : Bool). SetsFiltersIfKnown z a set request message new) is sets)
+    subst (λ (z : List Data). SetsExceptionFiltersIfKnown (list_all is_exception_filter_name z) z set request message new) e
+    (subst (λ (z : Bool). SetsExceptionFiltersIfKnown z a set request message new) is sets)
 
 pub behind_one : (values : List Value) (i : ℕ) (value : Value) → i < length values → value ≡ get_or values i value → drop i values ≡ value ∷ drop (i + 1) values
 behind_one values i value within is = drop_more values i value within ∙ ap (λ (z : Value). z ∷ drop (i + 1) values) (sym is)

@@ -8,7 +8,7 @@ use Rattle.serde_json.specs.Find.{get, as_str}
 use Rattle.ga_text.specs.Lines.{Text}
 use Rattle.ga_dap_views.specs.Json.{json_object_of_member}
 use Rattle.ga_dap_breakpoints.specs.declared.breakpoint.Breakpoint.{Breakpoint}
-use Rattle.ga_dap_protocol.specs.Messages.{member_text}
+use Rattle.ga_dap_protocol.specs.Messages.{member_as_text}
 use Rattle.ga_dap_protocol.specs.declared.request.ClientRequest.{ClientRequest}
 use Rattle.ga_dap_queries.specs.declared.debuggee.Debuggee.{Debuggee}
 use Rattle.ga_dap_control.specs.declared.configuration.Configuration.{Configuration}
@@ -16,7 +16,7 @@ use Rattle.ga_dap_control.specs.declared.configuration.BreakpointKind.{Breakpoin
 use Rattle.ga_dap_control.specs.declared.configuration.BreakpointKind.TheVariants as family
 use Rattle.ga_dap_control.specs.declared.configuration.PlacedBreakpoint.{PlacedBreakpoint}
 use Rattle.ga_dap_control.specs.Placing.{BreakpointPlacement, PlacesBreakpoints}
-use Rattle.ga_dap_queries.specs.Arguments.{member_values}
+use Rattle.ga_dap_queries.specs.Arguments.{member_list_values}
 use Rattle.ga_dap_queries.specs.Sending.{Message, success_response, bare_success_response, refused_response}
 
 -- ---- breakpoints
@@ -32,8 +32,8 @@ abbrev pub is_other_breakpoint_kind : BreakpointKind → PlacedBreakpoint → Bo
 is_other_breakpoint_kind kind one = not (breakpoint_kind_number one.family == breakpoint_kind_number kind)
 
 -- the breakpoints that other requests set remain, and the requested ones follow them
-abbrev pub without_breakpoint_kind : BreakpointKind → Configuration → BreakpointPlacement
-without_breakpoint_kind kind set = record { told = []; placed = filter (is_other_breakpoint_kind kind) set.points.placed.items; next = set.points.next_id }
+abbrev pub breakpoints_of_other_kinds : BreakpointKind → Configuration → BreakpointPlacement
+breakpoints_of_other_kinds kind set = record { told = []; placed = filter (is_other_breakpoint_kind kind) set.points.placed.items; next = set.points.next_id }
 
 -- these breakpoints are set now, and what else the client set stays
 pub record AreBreakpointsSet (placement : BreakpointPlacement) (set new : Configuration) : Type 0 where
@@ -47,7 +47,7 @@ breakpoints_body told = json_object_of_member (codes "breakpoints") (array (item
 
 abbrev pub ReplacesBreakpoints : Debuggee → BreakpointKind → Configuration → ClientRequest → Message → Configuration → Type 0
 ReplacesBreakpoints p kind set request message new =
-    (placement : BreakpointPlacement) × PlacesBreakpoints p kind (member_values (codes "breakpoints") (view request.arguments)) (without_breakpoint_kind kind set) placement
+    (placement : BreakpointPlacement) × PlacesBreakpoints p kind (member_list_values (codes "breakpoints") (view request.arguments)) (breakpoints_of_other_kinds kind set) placement
     × (message ≡ success_response request (breakpoints_body placement.told)) × AreBreakpointsSet placement set new
 
 -- `setBreakpoints`, for the program's own file; in another no breakpoint can stand
@@ -55,40 +55,40 @@ abbrev pub equals_optional_text : Text → Option Text → Bool
 equals_optional_text name None = false
 equals_optional_text name (Some text) = bytes_eq text name
 
-abbrev pub is_program_path : Text → Option Data → Bool
-is_program_path path None = false
-is_program_path path (Some source) = equals_optional_text path (member_text (codes "path") source)
+abbrev pub source_has_path : Text → Option Data → Bool
+source_has_path path None = false
+source_has_path path (Some source) = equals_optional_text path (member_as_text (codes "path") source)
 
 abbrev pub is_program_file : Debuggee → Data → Bool
-is_program_file p d = is_program_path (string_bytes p.path) (get (codes "source") d)
+is_program_file p d = source_has_path (string_bytes p.path) (get (codes "source") d)
 
-unfoldable pub other_file_object : Data
-other_file_object = object (member (codes "message") (string (codes "the program is another file")) (member (codes "verified") (boolean false) no_members))
+unfoldable pub other_file_breakpoint_object : Data
+other_file_breakpoint_object = object (member (codes "message") (string (codes "the program is another file")) (member (codes "verified") (boolean false) no_members))
 
 abbrev pub SetsLineBreakpointsIfOwnFile : Bool → Debuggee → Configuration → ClientRequest → Message → Configuration → Type 0
 SetsLineBreakpointsIfOwnFile true p set request message new = ReplacesBreakpoints p family.Source set request message new
 SetsLineBreakpointsIfOwnFile false p set request message new =
-    (message ≡ success_response request (breakpoints_body (replicate (length (member_values (codes "breakpoints") (view request.arguments))) other_file_object))) × (new ≡ set)
+    (message ≡ success_response request (breakpoints_body (replicate (length (member_list_values (codes "breakpoints") (view request.arguments))) other_file_breakpoint_object))) × (new ≡ set)
 
 abbrev pub SetsLineBreakpoints : Debuggee → Configuration → ClientRequest → Message → Configuration → Type 0
 SetsLineBreakpoints p set request message new = SetsLineBreakpointsIfOwnFile (is_program_file p (view request.arguments)) p set request message new
 
 -- ---- filters
 
-abbrev pub is_text_value : Text → Data → Bool
-is_text_value name d = equals_optional_text name (as_str d)
+abbrev pub is_json_string_equal_to : Text → Data → Bool
+is_json_string_equal_to name d = equals_optional_text name (as_str d)
 
 -- a filter: a node that stops, or that can never go on, ends a run
 abbrev pub is_exception_filter_name : Data → Bool
-is_exception_filter_name d = is_text_value (codes "stop") d || is_text_value (codes "stuck") d
+is_exception_filter_name d = is_json_string_equal_to (codes "stop") d || is_json_string_equal_to (codes "stuck") d
 
 -- the requested filters are set, if each is one
-abbrev pub SetsFiltersIfKnown : Bool → List Data → Configuration → ClientRequest → Message → Configuration → Type 0
-SetsFiltersIfKnown true names set request message new =
-    (message ≡ bare_success_response request) × (new ≡ record set { stops = list_any (is_text_value (codes "stop")) names; stuck = list_any (is_text_value (codes "stuck")) names })
-SetsFiltersIfKnown false names set request message new =
+abbrev pub SetsExceptionFiltersIfKnown : Bool → List Data → Configuration → ClientRequest → Message → Configuration → Type 0
+SetsExceptionFiltersIfKnown true names set request message new =
+    (message ≡ bare_success_response request) × (new ≡ record set { stops = list_any (is_json_string_equal_to (codes "stop")) names; stuck = list_any (is_json_string_equal_to (codes "stuck")) names })
+SetsExceptionFiltersIfKnown false names set request message new =
     (message ≡ refused_response request (codes "setExceptionBreakpoints: the filters are stop and stuck")) × (new ≡ set)
 
 abbrev pub SetsExceptionFilters : Configuration → ClientRequest → Message → Configuration → Type 0
 SetsExceptionFilters set request message new =
-    let names = member_values (codes "filters") (view request.arguments) in SetsFiltersIfKnown (list_all is_exception_filter_name names) names set request message new
+    let names = member_list_values (codes "filters") (view request.arguments) in SetsExceptionFiltersIfKnown (list_all is_exception_filter_name names) names set request message new

@@ -4,9 +4,9 @@ use Rattle.std.specs.Prelude.{◌≡◌, ◌==◌, if◌then◌else◌, ℕ, Boo
 use Rattle.serde_json.specs.Data.{Data, boolean, object, no_members, member}
 use Rattle.serde_json.specs.View.{view}
 use Rattle.ga_text.specs.Lines.{Text}
-use Rattle.ga_grid.specs.Chip.{record_at}
+use Rattle.ga_grid.specs.Chip.{node_record_at}
 use Rattle.ga_grid.specs.declared.node_id.NodeId.{NodeId}
-use Rattle.ga_lab.specs.Machine.{chip_of}
+use Rattle.ga_lab.specs.Machine.{chip_of_machine}
 use Rattle.ga_dap_breakpoints.specs.declared.stepping.StepMove.{StepMove}
 use Rattle.ga_dap_breakpoints.specs.Stepping.{step_in, step_over, step_out}
 use Rattle.ga_dap_protocol.specs.declared.request.ClientRequest.{ClientRequest}
@@ -62,7 +62,7 @@ BeginsStepUnlessStopped false kind r request stepping message new = (message ≡
 
 abbrev pub BeginsStepOfNode : Debuggee → DapStepKind → Execution → ClientRequest → NodeId → Message → Execution → Type 0
 BeginsStepOfNode p kind r request node message new =
-    BeginsStepUnlessStopped ((record_at (chip_of p.lab) node.number).stop == 0) kind r request (requested_step_move p kind node (view request.arguments)) message new
+    BeginsStepUnlessStopped ((node_record_at (chip_of_machine p.lab) node.number).stop == 0) kind r request (requested_step_move p kind node (view request.arguments)) message new
 
 abbrev pub BeginsStepOfThread : Debuggee → DapStepKind → Execution → ClientRequest → Option NodeId → Message → Execution → Type 0
 BeginsStepOfThread p kind r request None message new = (message ≡ refused_response request (no_such_thread_text kind)) × (new ≡ r)

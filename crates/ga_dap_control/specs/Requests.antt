@@ -7,7 +7,7 @@ use Rattle.ga_dap_queries.specs.declared.request_name.RequestName.TheVariants as
 use Rattle.ga_dap_control.specs.declared.moving.DapStepKind.{DapStepKind}
 use Rattle.ga_dap_control.specs.declared.moving.DapStepKind.TheVariants.{Over, In, Out}
 use Rattle.ga_dap_control.specs.declared.execution.Execution.{Execution}
-use Rattle.ga_dap_control.specs.declared.launched.LaunchedProgram.{LaunchedProgram}
+use Rattle.ga_dap_control.specs.declared.launched.LaunchedSession.{LaunchedSession}
 use Rattle.ga_dap_control.specs.declared.configuration.Configuration.{Configuration}
 use Rattle.ga_dap_control.specs.declared.configuration.BreakpointKind.TheVariants as family
 use Rattle.ga_dap_control.specs.Breakpoints.{SetsExceptionFilters, SetsLineBreakpoints, ReplacesBreakpoints}
@@ -19,23 +19,23 @@ use Rattle.ga_dap_queries.specs.Watching.{AnswersDataBreakpointInfo}
 use Rattle.ga_dap_queries.specs.Sending.{Message, Messages, refused_response}
 
 -- one message is sent, and what was launched stays
-abbrev pub SendsOneResponse : (Message → Type 0) → LaunchedProgram → Messages → LaunchedProgram → Type 0
+abbrev pub SendsOneResponse : (Message → Type 0) → LaunchedSession → Messages → LaunchedSession → Type 0
 SendsOneResponse Answers l messages new = (message : Message) × Answers message × (messages ≡ message ∷ []) × (new ≡ l)
 
 -- a run begins, or ends
-abbrev pub ChangesExecution : (Messages → Execution → Type 0) → LaunchedProgram → Messages → LaunchedProgram → Type 0
+abbrev pub ChangesExecution : (Messages → Execution → Type 0) → LaunchedSession → Messages → LaunchedSession → Type 0
 ChangesExecution Begins l messages new = (execution : Execution) × Begins messages execution × (new ≡ record l { execution = execution })
 
-abbrev pub AnswersStep : DapStepKind → LaunchedProgram → ClientRequest → Messages → LaunchedProgram → Type 0
+abbrev pub AnswersStep : DapStepKind → LaunchedSession → ClientRequest → Messages → LaunchedSession → Type 0
 AnswersStep kind l request messages new = (message : Message) × (execution : Execution) × BeginsStep l.program kind l.execution request message execution
     × (messages ≡ message ∷ []) × (new ≡ record l { execution = execution })
 
 -- what the client set changes, hits are counted anew, and nothing else; one message is sent
-abbrev pub ChangesConfiguration : (Message → Configuration → Type 0) → LaunchedProgram → Messages → LaunchedProgram → Type 0
+abbrev pub ChangesConfiguration : (Message → Configuration → Type 0) → LaunchedSession → Messages → LaunchedSession → Type 0
 ChangesConfiguration Becomes l messages new = (message : Message) × (settings : Configuration) × Becomes message settings × (messages ≡ message ∷ [])
     × (new ≡ record l { settings = settings; execution = record l.execution { tally = None } })
 
-abbrev pub AnswersImmediateRequest : RequestName → LaunchedProgram → ClientRequest → Messages → LaunchedProgram → Type 0
+abbrev pub AnswersImmediateRequest : RequestName → LaunchedSession → ClientRequest → Messages → LaunchedSession → Type 0
 AnswersImmediateRequest the.Threads l request messages new = SendsOneResponse (AnswersThreads l.program request) l messages new
 AnswersImmediateRequest the.StackTrace l request messages new = SendsOneResponse (AnswersStackTrace l.program request) l messages new
 AnswersImmediateRequest the.Scopes l request messages new = SendsOneResponse (AnswersScopes request) l messages new

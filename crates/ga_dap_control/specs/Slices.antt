@@ -1,20 +1,20 @@
 -- A slice of the run in progress, made while no request has come (Debug Adapter Protocol, "ContinueRequest", "NextRequest",
--- "StoppedEvent"): the events of the schedule, at most `slice_limit`, and why the run ends after them, if it does. So a run in
+-- "StoppedEvent"): the events of the schedule, at most `slice_event_limit`, and why the run ends after them, if it does. So a run in
 -- slices is one run, however it is cut.
 use Rattle.std.specs.Prelude.{◌≡◌, ◌≤◌, ◌<◌, ◌⊎◌, ℕ, Bool, true, false, ◌&&◌, not, ◌==◌, if◌then◌else◌, List, replicate, Option, Some, None}
 use Rattle.std.specs.List.{slice_get}
-use Rattle.ga_races.specs.Acts.{IsSubset, AreDeadlocked}
-use Rattle.ga_causal.specs.Dependence.{is_marked}
+use Rattle.ga_races.specs.Acts.{IsMarkedSubset, AreDeadlocked}
+use Rattle.ga_causal.specs.Dependence.{is_node_flagged}
 use Rattle.ga_node.specs.Record.{NodeRecord}
-use Rattle.ga_grid.specs.Chip.{record_at}
+use Rattle.ga_grid.specs.Chip.{node_record_at}
 use Rattle.ga_grid.specs.declared.node_id.NodeId.{NodeId}
-use Rattle.ga_event.specs.declared.made.Made.{Made}
-use Rattle.ga_event.specs.declared.made.Made.TheVariants.{Own, Pass}
-use Rattle.ga_lab.specs.Machine.{State, chip_of}
-use Rattle.ga_scheduler.specs.Running.{running, run_after_events}
-use Rattle.ga_scheduler.specs.Watched.{precedence_run_after}
-use Rattle.ga_dap_breakpoints.specs.declared.back.Watched.{Watched}
-use Rattle.ga_dap_breakpoints.specs.declared.back.Watched.TheVariants as watched
+use Rattle.ga_event.specs.declared.made.MadeEvent.{MadeEvent}
+use Rattle.ga_event.specs.declared.made.MadeEvent.TheVariants.{Own, Pass}
+use Rattle.ga_lab.specs.Machine.{MachineState, chip_of_machine}
+use Rattle.ga_scheduler.specs.Running.{scheduled_machine, run_after_events}
+use Rattle.ga_scheduler.specs.Watched.{run_after_events_with_precedence}
+use Rattle.ga_dap_breakpoints.specs.declared.back.WatchedAction.{WatchedAction}
+use Rattle.ga_dap_breakpoints.specs.declared.back.WatchedAction.TheVariants as watched
 use Rattle.ga_dap_views.specs.Threads.{has_thread}
 use Rattle.ga_dap_breakpoints.specs.declared.breakpoint.Breakpoint.{Breakpoint}
 use Rattle.ga_dap_breakpoints.specs.declared.going.HaltReason.{HaltReason}
@@ -24,7 +24,7 @@ use Rattle.ga_dap_breakpoints.specs.declared.stepping.StepMove.{StepMove}
 use Rattle.ga_dap_breakpoints.specs.Going.{IsMoveResult, tally_after_events, continue_plan, step_plan}
 use Rattle.ga_dap_breakpoints.specs.Stepping.{move_after_events}
 use Rattle.ga_dap_breakpoints.specs.declared.hits.HitTally.{HitTally}
-use Rattle.ga_dap_breakpoints.specs.Reversing.{kept_hit_tally}
+use Rattle.ga_dap_breakpoints.specs.Reversing.{hit_tally_of_history}
 use Rattle.ga_dap_control.specs.declared.execution.Execution.{Execution}
 use Rattle.ga_dap_control.specs.declared.execution.RunGoal.{RunGoal}
 use Rattle.ga_dap_control.specs.declared.execution.RunGoal.TheVariants.{Continue, Step}
@@ -35,86 +35,86 @@ use Rattle.ga_dap_control.specs.declared.configuration.Configuration.{Configurat
 use Rattle.ga_dap_queries.specs.Disassembling.{program_debug_info}
 
 -- the maximum number of events before the next look for a request
-abbrev pub slice_limit : ℕ
-slice_limit = 4096
+abbrev pub slice_event_limit : ℕ
+slice_event_limit = 4096
 
 -- ---- the events
 
 -- how often each breakpoint was hit before a slice: as the slice before left it, or as the kept events say
-abbrev pub tally_before_slice : State → Configuration → Option HitTally → HitTally
-tally_before_slice s set None = kept_hit_tally s set.points.points.items
-tally_before_slice s set (Some tally) = tally
+abbrev pub hit_tally_before_slice : MachineState → Configuration → Option HitTally → HitTally
+hit_tally_before_slice s set None = hit_tally_of_history s set.points.points.items
+hit_tally_before_slice s set (Some tally) = tally
 
 -- a slice of the events of `continue`
 abbrev pub ContinuesForSlice : Debuggee → Configuration → Execution → Debuggee → Execution → MoveResult → Type 0
 ContinuesForSlice p set r new next went =
-    (running new.lab went.schedule ≡ run_after_events (running p.lab r.schedule) went.events) × (went.events ≤ slice_limit)
-    × (went.tally ≡ tally_after_events None set.points.points.items (tally_before_slice p.lab set r.tally) (running p.lab r.schedule) went.events)
-    × IsMoveResult (continue_plan set.points.points.items (tally_before_slice p.lab set r.tally) set.stops (running p.lab r.schedule)) (running p.lab r.schedule) slice_limit went.events went.halt
+    (scheduled_machine new.lab went.schedule ≡ run_after_events (scheduled_machine p.lab r.schedule) went.events) × (went.events ≤ slice_event_limit)
+    × (went.tally ≡ tally_after_events None set.points.points.items (hit_tally_before_slice p.lab set r.tally) (scheduled_machine p.lab r.schedule) went.events)
+    × IsMoveResult (continue_plan set.points.points.items (hit_tally_before_slice p.lab set r.tally) set.stops (scheduled_machine p.lab r.schedule)) (scheduled_machine p.lab r.schedule) slice_event_limit went.events went.halt
     × (new ≡ record p { lab = new.lab }) × (next ≡ record r { schedule = went.schedule; tally = Some went.tally })
 
 -- a slice of the events of a step of one node
 abbrev pub StepsForSlice : StepMove → Debuggee → Configuration → Execution → Debuggee → Execution → MoveResult → Type 0
 StepsForSlice by p set r new next went =
-    (running new.lab went.schedule ≡ precedence_run_after (Some by.node) (running p.lab r.schedule) went.events) × (went.events ≤ slice_limit)
-    × (went.tally ≡ tally_after_events (Some by.node) set.points.points.items (tally_before_slice p.lab set r.tally) (running p.lab r.schedule) went.events)
-    × IsMoveResult (step_plan (program_debug_info p) set.points.points.items (tally_before_slice p.lab set r.tally) set.stops by (running p.lab r.schedule)) (running p.lab r.schedule) slice_limit went.events went.halt
+    (scheduled_machine new.lab went.schedule ≡ run_after_events_with_precedence (Some by.node) (scheduled_machine p.lab r.schedule) went.events) × (went.events ≤ slice_event_limit)
+    × (went.tally ≡ tally_after_events (Some by.node) set.points.points.items (hit_tally_before_slice p.lab set r.tally) (scheduled_machine p.lab r.schedule) went.events)
+    × IsMoveResult (step_plan (program_debug_info p) set.points.points.items (hit_tally_before_slice p.lab set r.tally) set.stops by (scheduled_machine p.lab r.schedule)) (scheduled_machine p.lab r.schedule) slice_event_limit went.events went.halt
     × (new ≡ record p { lab = new.lab })
-    × (next ≡ record r { schedule = went.schedule; tally = Some went.tally; goal = Some (Step (move_after_events by (running p.lab r.schedule) went.events)) })
+    × (next ≡ record r { schedule = went.schedule; tally = Some went.tally; goal = Some (Step (move_after_events by (scheduled_machine p.lab r.schedule) went.events)) })
 
-abbrev pub AdvancesByGoal : RunGoal → Debuggee → Configuration → Execution → Debuggee → Execution → MoveResult → Type 0
-AdvancesByGoal Continue p set r new next went = ContinuesForSlice p set r new next went
-AdvancesByGoal (Step by) p set r new next went = StepsForSlice by p set r new next went
+abbrev pub AdvancesRunByGoal : RunGoal → Debuggee → Configuration → Execution → Debuggee → Execution → MoveResult → Type 0
+AdvancesRunByGoal Continue p set r new next went = ContinuesForSlice p set r new next went
+AdvancesRunByGoal (Step by) p set r new next went = StepsForSlice by p set r new next went
 
 -- ---- why the run ends after them
 
 -- the node of what was made, of a pass its reader
-abbrev pub event_node : Made → NodeId
+abbrev pub event_node : MadeEvent → NodeId
 event_node (Own node step kind) = node
 event_node (Pass writer i reader j word) = reader
 
 -- why a run ends by what was made, which hit a breakpoint
-abbrev pub stop_reason_of_hit : NodeId → Made → Watched → StopReason
-stop_reason_of_hit node told (watched.ArrivesAtSlot spot) = stop.Breakpoint node told
-stop_reason_of_hit node told (watched.Writes address) = stop.Write node told
+abbrev pub stop_reason_of_watched_action : NodeId → MadeEvent → WatchedAction → StopReason
+stop_reason_of_watched_action node told (watched.ArrivesAtSlot spot) = stop.Breakpoint node told
+stop_reason_of_watched_action node told (watched.WritesWatchedCell address) = stop.WatchedCellWritten node told
 
-abbrev pub breakpoint_stop_reason : Option Breakpoint → Made → StopReason
-breakpoint_stop_reason None told = stop.Step (event_node told)
-breakpoint_stop_reason (Some point) told = stop_reason_of_hit point.node told point.watched
+abbrev pub stop_reason_of_breakpoint_if_any : Option Breakpoint → MadeEvent → StopReason
+stop_reason_of_breakpoint_if_any None told = stop.StepCompleted (event_node told)
+stop_reason_of_breakpoint_if_any (Some point) told = stop_reason_of_watched_action point.node told point.watched
 
-abbrev pub stop_reason_at_place : Configuration → Made → ℕ → StopReason
-stop_reason_at_place set told place = breakpoint_stop_reason (slice_get set.points.points.items place) told
+abbrev pub stop_reason_of_breakpoint_at_index : Configuration → MadeEvent → ℕ → StopReason
+stop_reason_of_breakpoint_at_index set told place = stop_reason_of_breakpoint_if_any (slice_get set.points.points.items place) told
 
 -- why a run ends where its move came to its end
-abbrev pub stop_reason_of_move_end : RunGoal → Made → StopReason
-stop_reason_of_move_end Continue told = stop.Step (event_node told)
-stop_reason_of_move_end (Step by) told = stop.Step by.node
+abbrev pub stop_reason_of_move_end : RunGoal → MadeEvent → StopReason
+stop_reason_of_move_end Continue told = stop.StepCompleted (event_node told)
+stop_reason_of_move_end (Step by) told = stop.StepCompleted by.node
 
 -- why a run ends: a node came to be stuck by its events, where the filter says so; else another reason
-abbrev pub deadlock_stop_reason : Bool → Option NodeId → Option StopReason → Option StopReason
-deadlock_stop_reason true (Some node) other = Some (stop.Stuck node)
-deadlock_stop_reason asked stuck other = other
+abbrev pub deadlock_or_other_stop_reason : Bool → Option NodeId → Option StopReason → Option StopReason
+deadlock_or_other_stop_reason true (Some node) other = Some (stop.Stuck node)
+deadlock_or_other_stop_reason asked stuck other = other
 
 abbrev pub slice_stop_reason : Configuration → RunGoal → Option NodeId → HaltReason → Option StopReason
-slice_stop_reason set goal stuck (halt.Hit told which) = Some (stop_reason_at_place set told which)
-slice_stop_reason set goal stuck (halt.Stopped told) = Some (stop.Stopped (event_node told))
-slice_stop_reason set goal stuck (halt.Moved told) = deadlock_stop_reason set.stuck stuck (Some (stop_reason_of_move_end goal told))
+slice_stop_reason set goal stuck (halt.HitBreakpoint told which) = Some (stop_reason_of_breakpoint_at_index set told which)
+slice_stop_reason set goal stuck (halt.NodeStopped told) = Some (stop.Stopped (event_node told))
+slice_stop_reason set goal stuck (halt.CompletedMove told) = deadlock_or_other_stop_reason set.stuck stuck (Some (stop_reason_of_move_end goal told))
 slice_stop_reason set goal stuck (halt.Refused why) = Some (stop.Refused why)
-slice_stop_reason set goal stuck halt.Cut = deadlock_stop_reason set.stuck stuck None
-slice_stop_reason set goal stuck halt.Quiet = deadlock_stop_reason set.stuck stuck (Some stop.Quiet)
+slice_stop_reason set goal stuck halt.SliceEnded = deadlock_or_other_stop_reason set.stuck stuck None
+slice_stop_reason set goal stuck halt.Quiet = deadlock_or_other_stop_reason set.stuck stuck (Some stop.Quiet)
 
 -- ---- nodes that are stuck
 
 -- the greatest set of nodes that can never go on
 abbrev pub IsGreatestDeadlock : List NodeRecord → (ℕ → Bool) → Type 0
-IsGreatestDeadlock chip marks = AreDeadlocked chip marks × ((others : ℕ → Bool) → AreDeadlocked chip others → IsSubset others marks)
+IsGreatestDeadlock chip marks = AreDeadlocked chip marks × ((others : ℕ → Bool) → AreDeadlocked chip others → IsMarkedSubset others marks)
 
 -- a node that has something to show, and isn't stopped, can never go on, and is not among those that are known
-abbrev pub is_newly_deadlocked_by : Bool → Bool → Debuggee → ℕ → Bool
-is_newly_deadlocked_by known now p n = now && not known && has_thread p.lab p.nodes.items n && (record_at (chip_of p.lab) n).stop == 0
+abbrev pub is_newly_deadlocked_by_flags : Bool → Bool → Debuggee → ℕ → Bool
+is_newly_deadlocked_by_flags known now p n = now && not known && has_thread p.lab p.nodes.items n && (node_record_at (chip_of_machine p.lab) n).stop == 0
 
 abbrev pub is_newly_deadlocked : (ℕ → Bool) → (ℕ → Bool) → Debuggee → ℕ → Bool
-is_newly_deadlocked known now p n = is_newly_deadlocked_by (known n) (now n) p n
+is_newly_deadlocked known now p n = is_newly_deadlocked_by_flags (known n) (now n) p n
 
 -- the first such node, if there is one
 abbrev pub IsFirstNewlyDeadlocked : (ℕ → Bool) → (ℕ → Bool) → Debuggee → Option NodeId → Type 0
@@ -122,9 +122,9 @@ IsFirstNewlyDeadlocked known now p None = (n : ℕ) → n < 144 → is_newly_dea
 IsFirstNewlyDeadlocked known now p (Some node) = (is_newly_deadlocked known now p node.number ≡ true) × ((n : ℕ) → n < node.number → is_newly_deadlocked known now p n ≡ false)
 
 -- a message is sent only if the filter is on
-abbrev pub deadlock_if_filter_is_set : Bool → Option NodeId → Option NodeId
-deadlock_if_filter_is_set true stuck = stuck
-deadlock_if_filter_is_set false stuck = None
+abbrev pub deadlocked_node_if_filter_set : Bool → Option NodeId → Option NodeId
+deadlocked_node_if_filter_set true stuck = stuck
+deadlocked_node_if_filter_set false stuck = None
 
 -- a run ended since a node is stuck
 abbrev pub is_deadlock_stop : Option StopReason → Bool
@@ -144,10 +144,10 @@ execution_after_stop r None = r
 execution_after_stop r (Some why) = record r { goal = None }
 
 -- the events of a slice, before which these nodes are stuck
-abbrev pub MakesSliceEvents : RunGoal → List Bool → Debuggee → Configuration → Execution → Debuggee → Execution → Option StopReason → Type 0
-MakesSliceEvents goal before p set r new next result =
-    (went : MoveResult) × (between : Execution) × (now : List Bool) × (stuck : Option NodeId) × AdvancesByGoal goal p set r new between went
-    × IsGreatestDeadlock (chip_of new.lab) (is_marked now) × IsFirstNewlyDeadlocked (is_marked before) (is_marked now) new stuck
+abbrev pub MakesSliceGivenDeadlocked : RunGoal → List Bool → Debuggee → Configuration → Execution → Debuggee → Execution → Option StopReason → Type 0
+MakesSliceGivenDeadlocked goal before p set r new next result =
+    (went : MoveResult) × (between : Execution) × (now : List Bool) × (stuck : Option NodeId) × AdvancesRunByGoal goal p set r new between went
+    × IsGreatestDeadlock (chip_of_machine new.lab) (is_node_flagged now) × IsFirstNewlyDeadlocked (is_node_flagged before) (is_node_flagged now) new stuck
     × (result ≡ slice_stop_reason set goal stuck went.halt)
     × (next ≡ execution_after_stop (record between { reported = reported_deadlocks set.stuck result before now }) result)
 
@@ -155,13 +155,13 @@ MakesSliceEvents goal before p set r new next result =
 abbrev pub MakesEventsUnlessDeadlocked : Option NodeId → RunGoal → List Bool → Debuggee → Configuration → Execution → Debuggee → Execution → Option StopReason → Type 0
 MakesEventsUnlessDeadlocked (Some node) goal before p set r new next result =
     (new ≡ p) × (next ≡ record r { goal = None; reported = before }) × (result ≡ Some (stop.Stuck node))
-MakesEventsUnlessDeadlocked None goal before p set r new next result = MakesSliceEvents goal before p set r new next result
+MakesEventsUnlessDeadlocked None goal before p set r new next result = MakesSliceGivenDeadlocked goal before p set r new next result
 
-abbrev pub MakesSliceOfGoal : Option RunGoal → Debuggee → Configuration → Execution → Debuggee → Execution → Option StopReason → Type 0
-MakesSliceOfGoal None p set r new next result = (new ≡ p) × (next ≡ r) × (result ≡ None)
-MakesSliceOfGoal (Some goal) p set r new next result =
-    (before : List Bool) × (stuck : Option NodeId) × IsGreatestDeadlock (chip_of p.lab) (is_marked before)
-    × IsFirstNewlyDeadlocked (is_marked r.reported) (is_marked before) p stuck × MakesEventsUnlessDeadlocked (deadlock_if_filter_is_set set.stuck stuck) goal before p set r new next result
+abbrev pub MakesSliceIfRunning : Option RunGoal → Debuggee → Configuration → Execution → Debuggee → Execution → Option StopReason → Type 0
+MakesSliceIfRunning None p set r new next result = (new ≡ p) × (next ≡ r) × (result ≡ None)
+MakesSliceIfRunning (Some goal) p set r new next result =
+    (before : List Bool) × (stuck : Option NodeId) × IsGreatestDeadlock (chip_of_machine p.lab) (is_node_flagged before)
+    × IsFirstNewlyDeadlocked (is_node_flagged r.reported) (is_node_flagged before) p stuck × MakesEventsUnlessDeadlocked (deadlocked_node_if_filter_set set.stuck stuck) goal before p set r new next result
 
 abbrev pub MakesEventSlice : Debuggee → Configuration → Execution → Debuggee → Execution → Option StopReason → Type 0
-MakesEventSlice p set r new next result = MakesSliceOfGoal r.goal p set r new next result
+MakesEventSlice p set r new next result = MakesSliceIfRunning r.goal p set r new next result

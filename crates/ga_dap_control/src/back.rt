@@ -3,7 +3,7 @@
 ghost use Rattle.std.specs.Prelude.{◌≡◌, ◌++◌, length, string_bytes, slice_index_or, IfOk, OnOk};
 ghost use Rattle.serde_json.specs.View.{view};
 ghost use Rattle.ga_event.specs.Told.{count_steps};
-ghost use Rattle.ga_dap_control.specs.Back.{requested_granularity, program_after_step_back, program_after_reverse, AreKeptStepCounts, IsRollbackSummary, removed_steps_line, removed_steps_text, removed_steps_of_node, removed_steps_below, rollback_head_text, rollback_summary_text};
+ghost use Rattle.ga_dap_control.specs.Back.{requested_granularity, debuggee_after_step_back, debuggee_after_reverse_continue, AreStepCountsByNode, IsRollbackSummary, removed_steps_line, removed_steps_line_if_any, removed_steps_of_other_node_text, removed_steps_text_below, rollback_summary_first_line, rollback_summary_text};
 
 use crate::moving::requested_granularity;
 use ga_dap_breakpoints::{
@@ -25,7 +25,7 @@ pub struct RollbackSummary {
 
 /// How many steps of each node are kept.
 fn steps_kept(lab: &Lab) -> [u32; 144]
-    ensures steps { AreKeptStepCounts lab.now result }
+    ensures steps { AreStepCountsByNode lab.now result }
     ensures size { length result ≡ 144 }
 {
     let mut steps = [0u32; 144];
@@ -38,7 +38,7 @@ fn steps_kept(lab: &Lab) -> [u32; 144]
 
 /// Rolls a node back by a line or a step.
 fn step_by(program: &mut Debuggee, node: NodeId, grain: Granularity)
-    ensures { program.new ≡ program_after_step_back grain program.old node }
+    ensures { program.new ≡ debuggee_after_step_back grain program.old node }
 {
     match grain {
         Granularity::Instruction => {
@@ -50,7 +50,7 @@ fn step_by(program: &mut Debuggee, node: NodeId, grain: Granularity)
 
 /// Rolls a node back by a line.
 fn step_line(program: &mut Debuggee, node: NodeId)
-    ensures { program.new ≡ program_after_step_back Granularity.Line program.old node }
+    ensures { program.new ≡ debuggee_after_step_back Granularity.Line program.old node }
 {
     match &program.source {
         Some(notes) => {
@@ -64,7 +64,7 @@ fn step_line(program: &mut Debuggee, node: NodeId)
 
 /// Rolls a node back by a line or a step, and returns what was removed.
 pub fn step_back_node(program: &mut Debuggee, node: NodeId, arguments: &Value) -> RollbackSummary
-    ensures program { program.new ≡ program_after_step_back (requested_granularity program.old (view arguments.now)) program.old node }
+    ensures program { program.new ≡ debuggee_after_step_back (requested_granularity program.old (view arguments.now)) program.old node }
     ensures node { result.node ≡ node }
     ensures went { IsRollbackSummary program.old.lab program.new.lab result.before result.removed }
 {
@@ -86,7 +86,7 @@ pub fn reverse_continue_node(
     node: NodeId,
     points: &[Breakpoint],
 ) -> RollbackSummary
-    ensures program { program.new ≡ program_after_reverse program.old node points.now }
+    ensures program { program.new ≡ debuggee_after_reverse_continue program.old node points.now }
     ensures node { result.node ≡ node }
     ensures went { IsRollbackSummary program.old.lab program.new.lab result.before result.removed }
 {
@@ -102,12 +102,12 @@ pub fn reverse_continue_node(
 }
 
 /// The line about the node that was rolled back.
-fn rollback_head_text(
+fn rollback_summary_first_line(
     alloc: Global,
     lab: &Lab,
     gone: &RollbackSummary,
 ) -> Result<String, AllocError>
-    ensures { IfOk result (λ text. string_bytes text ≡ rollback_head_text gone.now.node gone.now.removed lab.now) }
+    ensures { IfOk result (λ text. string_bytes text ≡ rollback_summary_first_line gone.now.node gone.now.removed lab.now) }
 {
     let kept = lab.counts().kept;
     let step = u64::from(lab.steps(gone.node)) + 1;
@@ -126,7 +126,7 @@ pub fn rollback_summary_text(
 ) -> Result<String, AllocError>
     ensures { IfOk result (λ text. string_bytes text ≡ rollback_summary_text gone.now.node gone.now.before gone.now.removed lab.now) }
 {
-    let mut text = rollback_head_text(alloc, lab, gone)?;
+    let mut text = rollback_summary_first_line(alloc, lab, gone)?;
     add_others(alloc, &mut text, lab, gone)?;
     Ok(text)
 }
@@ -138,7 +138,7 @@ fn add_others(
     lab: &Lab,
     gone: &RollbackSummary,
 ) -> Result<(), AllocError>
-    ensures { OnOk result (string_bytes text.new ≡ string_bytes text.old ++ removed_steps_below gone.now.node.number gone.now.before lab.now 144) }
+    ensures { OnOk result (string_bytes text.new ≡ string_bytes text.old ++ removed_steps_text_below gone.now.node.number gone.now.before lab.now 144) }
 {
     'nodes: for number in 0..144u8 {
         let node = NodeId::new(number);
@@ -155,7 +155,7 @@ fn add_gone(
     gone: &RollbackSummary,
     node: NodeId,
 ) -> Result<(), AllocError>
-    ensures { OnOk result (string_bytes text.new ≡ string_bytes text.old ++ removed_steps_of_node gone.now.node.number gone.now.before lab.now node.number) }
+    ensures { OnOk result (string_bytes text.new ≡ string_bytes text.old ++ removed_steps_of_other_node_text gone.now.node.number gone.now.before lab.now node.number) }
 {
     if node.number == gone.node.number {
         return Ok(());
@@ -207,7 +207,7 @@ fn add_other(
     before: u32,
     left: u32,
 ) -> Result<(), AllocError>
-    ensures { OnOk result (string_bytes text.new ≡ string_bytes text.old ++ removed_steps_text node.number before left) }
+    ensures { OnOk result (string_bytes text.new ≡ string_bytes text.old ++ removed_steps_line_if_any node.number before left) }
 {
     if before <= left {
         return Ok(());

@@ -5,17 +5,17 @@ ghost use Rattle.std.specs.List.{list_all, list_any};
 ghost use Rattle.serde_json.specs.View.{view};
 ghost use Rattle.serde_json.specs.declared.value.Value.{Value as AValue};
 ghost use Rattle.ga_dap_control.specs.Placing.{PlacesBreakpoints};
-ghost use Rattle.ga_dap_control.specs.Breakpoints.{without_breakpoint_kind, breakpoints_body, other_file_object, is_program_file, is_text_value, is_exception_filter_name, AreBreakpointsSet, SetsFiltersIfKnown, SetsExceptionFilters, SetsLineBreakpoints, ReplacesBreakpoints};
-ghost use Rattle.ga_dap_control.specs.inner.{placement_of};
-ghost use Rattle.ga_dap_queries.specs.Arguments.{member_values};
+ghost use Rattle.ga_dap_control.specs.Breakpoints.{breakpoints_of_other_kinds, breakpoints_body, other_file_breakpoint_object, is_program_file, is_json_string_equal_to, is_exception_filter_name, AreBreakpointsSet, SetsExceptionFiltersIfKnown, SetsExceptionFilters, SetsLineBreakpoints, ReplacesBreakpoints};
+ghost use Rattle.ga_dap_control.specs.inner.{placement_of_progress};
+ghost use Rattle.ga_dap_queries.specs.Arguments.{member_list_values};
 ghost use Rattle.ga_dap_queries.specs.Sending.{SendsMessage, Message, success_response};
 
 use crate::configuration::{
     BreakpointKind, BreakpointSet, Configuration, PlacedBreakpoint, breakpoints_of,
 };
-use crate::placing::{Placing, place_all};
-use ga_dap_protocol::{ClientRequest, Outbox, member_text};
-use ga_dap_queries::{Debuggee, member_values};
+use crate::placing::{PlacementProgress, place_all};
+use ga_dap_protocol::{ClientRequest, Outbox, member_as_text};
+use ga_dap_queries::{Debuggee, member_list_values};
 use serde_json::{Map, Value, json, push, put};
 use std::alloc::{AllocError, Global};
 
@@ -26,16 +26,16 @@ fn is_program_file(program: &Debuggee, arguments: &Value) -> bool
     let Some(source) = arguments.get("source") else {
         return false;
     };
-    match member_text(source, "path") {
+    match member_as_text(source, "path") {
         Some(path) => path == program.path.as_str(),
         None => false,
     }
 }
 
 /// A breakpoint in another file.
-#[tactic(auto, unfolding(crate::specs::Breakpoints::other_file_object))]
-fn other_file_object(alloc: Global) -> Result<Value, AllocError>
-    ensures { IfOk result (λ v. view v ≡ other_file_object) }
+#[tactic(auto, unfolding(crate::specs::Breakpoints::other_file_breakpoint_object))]
+fn other_file_breakpoint_object(alloc: Global) -> Result<Value, AllocError>
+    ensures { IfOk result (λ v. view v ≡ other_file_breakpoint_object) }
 {
     json!(in alloc; {"message": "the program is another file", "verified": false})
 }
@@ -43,11 +43,11 @@ fn other_file_object(alloc: Global) -> Result<Value, AllocError>
 /// What is sent for each breakpoint if the request names another file.
 #[tactic(auto, using(std::proofs::lemmas::List::map_push, std::proofs::lemmas::List::replicate_more))]
 fn place_nowhere(alloc: Global, count: usize) -> Result<Vec<Value>, AllocError>
-    ensures { IfOk result (λ list. map view list.items ≡ replicate count other_file_object) }
+    ensures { IfOk result (λ list. map view list.items ≡ replicate count other_file_breakpoint_object) }
 {
     let mut list = Vec::new(alloc);
     'asked: for _place in 0..count {
-        let told = other_file_object(alloc)?;
+        let told = other_file_breakpoint_object(alloc)?;
         push(&mut list, told)?;
     }
     Ok(list)
@@ -89,14 +89,14 @@ pub fn set_line_breakpoints(
 /// The number of requested breakpoints.
 #[tactic(auto, using(crate::proofs::Placed::counted))]
 fn count_asked(arguments: &Value) -> usize
-    ensures { result ≡ length (member_values (codes "breakpoints") (view arguments.now)) }
+    ensures { result ≡ length (member_list_values (codes "breakpoints") (view arguments.now)) }
 {
-    member_values(arguments, "breakpoints").len()
+    member_list_values(arguments, "breakpoints").len()
 }
 
 /// Reports that no breakpoint can be in another file.
 fn tell_nowhere(alloc: Global, request: &ClientRequest, out: &mut Outbox) -> Result<(), AllocError>
-    ensures sent { OnOk result (SendsMessage out.old (success_response request.now (breakpoints_body (replicate (length (member_values (codes "breakpoints") (view request.now.arguments))) other_file_object))) out.new) }
+    ensures sent { OnOk result (SendsMessage out.old (success_response request.now (breakpoints_body (replicate (length (member_list_values (codes "breakpoints") (view request.now.arguments))) other_file_breakpoint_object))) out.new) }
     ensures err { OnErr result (out.new ≡ out.old) }
 {
     let count = count_asked(&request.arguments);
@@ -106,10 +106,10 @@ fn tell_nowhere(alloc: Global, request: &ClientRequest, out: &mut Outbox) -> Res
 }
 
 /// No breakpoint is placed yet after those that other requests set.
-fn placing_new(alloc: Global, placed: Vec<PlacedBreakpoint>, next: u64) -> Placing
-    ensures { placement_of result ≡ record { told = []; placed = placed.items; next = next } }
+fn placing_new(alloc: Global, placed: Vec<PlacedBreakpoint>, next: u64) -> PlacementProgress
+    ensures { placement_of_progress result ≡ record { told = []; placed = placed.items; next = next } }
 {
-    Placing {
+    PlacementProgress {
         told: Vec::new(alloc),
         placed,
         next,
@@ -124,12 +124,12 @@ fn placing_of(
     settings: &Configuration,
     family: BreakpointKind,
     request: &ClientRequest,
-) -> Result<Placing, AllocError>
-    ensures { IfOk result (λ placing. PlacesBreakpoints program.now family (member_values (codes "breakpoints") (view request.now.arguments)) (without_breakpoint_kind family settings.now) (placement_of placing)) }
+) -> Result<PlacementProgress, AllocError>
+    ensures { IfOk result (λ placing. PlacesBreakpoints program.now family (member_list_values (codes "breakpoints") (view request.now.arguments)) (breakpoints_of_other_kinds family settings.now) (placement_of_progress placing)) }
 {
-    let placed = settings.points.without_breakpoint_kind(alloc, family)?;
+    let placed = settings.points.breakpoints_of_other_kinds(alloc, family)?;
     let mut placing = placing_new(alloc, placed, settings.points.next_id);
-    let asked = member_values(&request.arguments, "breakpoints");
+    let asked = member_list_values(&request.arguments, "breakpoints");
     place_all(alloc, program, family, asked, &mut placing)?;
     Ok(placing)
 }
@@ -137,16 +137,16 @@ fn placing_of(
 /// Sets the breakpoints that were placed, and reports each.
 fn set_placing(
     alloc: Global,
-    placing: Placing,
+    placing: PlacementProgress,
     settings: &mut Configuration,
     request: &ClientRequest,
     out: &mut Outbox,
 ) -> Result<(), AllocError>
-    ensures sent { OnOk result ((message : Message) × (message ≡ success_response request.now (breakpoints_body (placement_of placing).told)) × AreBreakpointsSet (placement_of placing) settings.old settings.new × SendsMessage out.old message out.new) }
+    ensures sent { OnOk result ((message : Message) × (message ≡ success_response request.now (breakpoints_body (placement_of_progress placing).told)) × AreBreakpointsSet (placement_of_progress placing) settings.old settings.new × SendsMessage out.old message out.new) }
     ensures kept { OnErr result (settings.new ≡ settings.old) }
 {
     let points = breakpoints_of(alloc, placing.placed.as_slice())?;
-    let Placing { told, placed, next } = placing;
+    let PlacementProgress { told, placed, next } = placing;
     let body = breakpoints_body(alloc, told)?;
     out.respond(request, body)?;
     settings.points = BreakpointSet {
@@ -175,8 +175,8 @@ pub fn replace_breakpoints(
 }
 
 /// Whether an item is a text, this one.
-fn is_text_value(item: &Value, name: &str) -> bool
-    ensures { result ≡ is_text_value name.now (view item.now) }
+fn is_json_string_equal_to(item: &Value, name: &str) -> bool
+    ensures { result ≡ is_json_string_equal_to name.now (view item.now) }
 {
     match item.as_str() {
         Some(text) => text == name,
@@ -188,7 +188,7 @@ fn is_text_value(item: &Value, name: &str) -> bool
 fn is_exception_filter_name(item: &Value) -> bool
     ensures { result ≡ is_exception_filter_name (view item.now) }
 {
-    is_text_value(item, "stop") || is_text_value(item, "stuck")
+    is_json_string_equal_to(item, "stop") || is_json_string_equal_to(item, "stuck")
 }
 
 fn each_is_filter(items: &[Value]) -> bool
@@ -205,13 +205,13 @@ fn are_filters(items: &[Value]) -> bool
 }
 
 fn one_is_text(items: &[Value], name: &str) -> bool
-    ensures { result ≡ list_any (λ (item : AValue). is_text_value name.now (view item)) items.now }
+    ensures { result ≡ list_any (λ (item : AValue). is_json_string_equal_to name.now (view item)) items.now }
 {
-    items.iter().any(|item| is_text_value(item, name))
+    items.iter().any(|item| is_json_string_equal_to(item, name))
 }
 
 fn has_filter(items: &[Value], name: &str) -> bool
-    ensures { result ≡ list_any (is_text_value name.now) (map view items.now) }
+    ensures { result ≡ list_any (is_json_string_equal_to name.now) (map view items.now) }
 {
     one_is_text(items, name)
 }
@@ -224,7 +224,7 @@ fn set_filters_if(
     request: &ClientRequest,
     out: &mut Outbox,
 ) -> Result<(), AllocError>
-    ensures sent { OnOk result ((message : Message) × SetsFiltersIfKnown known (map view filters.now) settings.old request.now message settings.new × SendsMessage out.old message out.new) }
+    ensures sent { OnOk result ((message : Message) × SetsExceptionFiltersIfKnown known (map view filters.now) settings.old request.now message settings.new × SendsMessage out.old message out.new) }
     ensures kept { OnErr result (settings.new ≡ settings.old) }
 {
     if known {
@@ -252,7 +252,7 @@ pub fn set_exception_filters(
     ensures sent { OnOk result ((message : Message) × SetsExceptionFilters settings.old request.now message settings.new × SendsMessage out.old message out.new) }
     ensures kept { OnErr result (settings.new ≡ settings.old) }
 {
-    let filters = member_values(&request.arguments, "filters");
+    let filters = member_list_values(&request.arguments, "filters");
     let known = are_filters(filters);
     set_filters_if(settings, filters, known, request, out)
 }

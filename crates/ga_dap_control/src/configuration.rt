@@ -5,8 +5,8 @@ ghost use Rattle.ga_dap_control.specs.declared.configuration.PlacedBreakpoint.{P
 ghost use Rattle.ga_dap_control.specs.Breakpoints.{breakpoint_kind_number, is_other_breakpoint_kind};
 ghost use Rattle.ga_dap_control.specs.Stopping.{is_placed_breakpoint_hit};
 
-use ga_dap_breakpoints::{Breakpoint, HaltConditions, HitTally, is_hit_by_newest_event};
-use ga_lab::{Lab, Made};
+use ga_dap_breakpoints::{Breakpoint, HaltConditions, HitTally, is_event_hit_meeting_condition};
+use ga_lab::{Lab, MadeEvent};
 use std::alloc::{AllocError, Global};
 
 /// Which request set a breakpoint.
@@ -85,10 +85,10 @@ pub(crate) fn breakpoints_of(
 
 /// Whether this event, the newest, hit a breakpoint and satisfied its hit condition.
 #[tactic(auto, unfolding(crate::specs::Stopping::is_placed_breakpoint_hit))]
-fn is_placed_breakpoint_hit(lab: &Lab, made: &Made, one: PlacedBreakpoint) -> bool
+fn is_placed_breakpoint_hit(lab: &Lab, made: &MadeEvent, one: PlacedBreakpoint) -> bool
     ensures { result ≡ is_placed_breakpoint_hit made.now lab.now one }
 {
-    is_hit_by_newest_event(lab, made, &one.breakpoint)
+    is_event_hit_meeting_condition(lab, made, &one.breakpoint)
 }
 
 /// The numbers of some breakpoints.
@@ -122,7 +122,7 @@ impl BreakpointSet {
     }
 
     /// The breakpoints that other requests set.
-    pub fn without_breakpoint_kind(
+    pub fn breakpoints_of_other_kinds(
         &self,
         alloc: Global,
         family: BreakpointKind,
@@ -143,7 +143,7 @@ impl BreakpointSet {
         &self,
         alloc: Global,
         lab: &Lab,
-        made: &Made,
+        made: &MadeEvent,
     ) -> Result<Vec<PlacedBreakpoint>, AllocError>
         ensures { IfOk result (λ list. list.items ≡ filter (is_placed_breakpoint_hit made.now lab.now) self.now.placed.items) }
     {
@@ -161,7 +161,7 @@ impl BreakpointSet {
         &self,
         alloc: Global,
         lab: &Lab,
-        made: &Made,
+        made: &MadeEvent,
     ) -> Result<Vec<u64>, AllocError>
         ensures { IfOk result (λ ids. ids.items ≡ hit_breakpoint_ids made.now lab.now self.now.placed.items) }
     {
@@ -170,7 +170,7 @@ impl BreakpointSet {
     }
 
     /// The breakpoint at a place.
-    pub fn breakpoint_at(&self, place: usize) -> Option<Breakpoint>
+    pub fn breakpoint_at_index(&self, place: usize) -> Option<Breakpoint>
         ensures { result ≡ slice_get self.now.points.items place }
     {
         match self.points.get(place) {
@@ -199,7 +199,7 @@ impl Configuration {
     }
 
     /// What ends a run early, where each breakpoint was hit so often.
-    pub fn halts(&self, tally: HitTally) -> HaltConditions<'_>
+    pub fn halt_conditions_with_tally(&self, tally: HitTally) -> HaltConditions<'_>
         ensures points { result.breakpoints.now ≡ self.now.points.points.items }
         ensures stops { result.stops ≡ self.now.stops }
         ensures hits { result.tally ≡ tally }

@@ -2,14 +2,14 @@
 
 ghost use Rattle.std.specs.Prelude.{◌≡◌, OnOk, OnErr};
 ghost use Rattle.ga_dap_queries.specs.Sending.{SendsMessages, Messages};
-ghost use Rattle.ga_causal.specs.Dependence.{is_marked};
+ghost use Rattle.ga_causal.specs.Dependence.{is_node_flagged};
 ghost use Rattle.ga_dap_queries.specs.Events.{IsFirstThreadNode};
-ghost use Rattle.ga_dap_control.specs.Configuring.{AreThreadMarks, thread_start_messages, StopsOnEntryOrRuns, AnswersConfigurationDone, ConfiguresUnlessDone, CompletesConfiguration};
+ghost use Rattle.ga_dap_control.specs.Configuring.{AreNodesWithThreads, response_and_thread_messages, StopsOnEntryOrRuns, AnswersConfigurationDone, CompletesConfigurationUnlessDone, CompletesConfiguration};
 
 use crate::execution::{Execution, RunGoal};
 use ga_dap_protocol::{ClientRequest, Outbox};
 use ga_dap_queries::{
-    Debuggee, emit_stopped, emit_thread_changes, first_thread_node, has_thread_by_node,
+    Debuggee, emit_stopped_event, emit_thread_changes, first_node_with_thread, thread_flags_by_node,
 };
 use ga_grid::NodeId;
 use std::alloc::{AllocError, Global};
@@ -18,18 +18,18 @@ use std::alloc::{AllocError, Global};
 pub(crate) fn first_of(program: &Debuggee) -> NodeId
     ensures { IsFirstThreadNode program.now.lab program.now.nodes.items result.number }
 {
-    first_thread_node(&program.lab, program.nodes.as_slice())
+    first_node_with_thread(&program.lab, program.nodes.as_slice())
 }
 
 /// The nodes that have something to show.
 fn shown_of(program: &Debuggee) -> [bool; 144]
-    ensures { AreThreadMarks program.now (is_marked result) }
+    ensures { AreNodesWithThreads program.now (is_node_flagged result) }
 {
-    has_thread_by_node(&program.lab, program.nodes.as_slice())
+    thread_flags_by_node(&program.lab, program.nodes.as_slice())
 }
 
 /// `configurationDone`: sends the threads; the chip is then stopped at load or runs.
-pub fn configure(
+pub fn respond_configuration_done(
     alloc: Global,
     program: &Debuggee,
     execution: &mut Execution,
@@ -52,7 +52,7 @@ fn configure_if(
     done: bool,
     out: &mut Outbox,
 ) -> Result<(), AllocError>
-    ensures sent { OnOk result ((messages : Messages) × ConfiguresUnlessDone done program.now execution.old request.now messages execution.new × SendsMessages out.old messages out.new) }
+    ensures sent { OnOk result ((messages : Messages) × CompletesConfigurationUnlessDone done program.now execution.old request.now messages execution.new × SendsMessages out.old messages out.new) }
     ensures kept { OnErr result (execution.new ≡ execution.old) }
 {
     if done {
@@ -69,7 +69,7 @@ fn tell_threads_started(
     now: &[bool; 144],
     out: &mut Outbox,
 ) -> Result<(), AllocError>
-    ensures { OnOk result (SendsMessages out.old (thread_start_messages request.now (is_marked now.now)) out.new) }
+    ensures { OnOk result (SendsMessages out.old (response_and_thread_messages request.now (is_node_flagged now.now)) out.new) }
 {
     out.acknowledge(request)?;
     emit_thread_changes(alloc, &[false; 144], now, out)
@@ -105,7 +105,7 @@ fn begin_so(
 {
     if stops {
         let first = first_of(program);
-        emit_stopped(alloc, "entry", "at load", first, out)?;
+        emit_stopped_event(alloc, "entry", "at load", first, out)?;
         execution.is_configured = true;
         Ok(())
     } else {

@@ -1,17 +1,17 @@
 //! The run under way.
 
 ghost use Rattle.std.specs.Prelude.{◌≡◌, ◌≤◌, Some, None};
-ghost use Rattle.ga_scheduler.specs.Running.{running};
-ghost use Rattle.ga_scheduler.specs.Watched.{precedence_run_after};
+ghost use Rattle.ga_scheduler.specs.Running.{scheduled_machine};
+ghost use Rattle.ga_scheduler.specs.Watched.{run_after_events_with_precedence};
 ghost use Rattle.ga_dap_breakpoints.specs.Going.{IsMoveResult, tally_after_events, step_plan};
 ghost use Rattle.ga_dap_breakpoints.specs.Stepping.{move_after_events};
-ghost use Rattle.ga_dap_control.specs.Slices.{slice_limit, tally_before_slice, ContinuesForSlice, StepsForSlice, AdvancesByGoal, MakesSliceOfGoal, MakesEventSlice, MakesSliceEvents, execution_after_stop};
+ghost use Rattle.ga_dap_control.specs.Slices.{slice_event_limit, hit_tally_before_slice, ContinuesForSlice, StepsForSlice, AdvancesRunByGoal, MakesSliceIfRunning, MakesEventSlice, MakesSliceGivenDeadlocked, execution_after_stop};
 
 use crate::configuration::Configuration;
 use crate::deadlocks::{keep_reported, newly_stuck, stuck_of, unreported};
 use crate::stop_reason::{StopReason, slice_stop_reason};
 use ga_dap_breakpoints::{
-    HitTally, MoveResult, StepMove, continue_run, continue_step, count_kept_hits,
+    HitTally, MoveResult, StepMove, count_hits_in_history, make_continue_slice, make_step_slice,
 };
 use ga_dap_queries::Debuggee;
 use ga_debug_info::DebugInfo;
@@ -49,12 +49,12 @@ pub struct Execution {
 }
 
 /// How often each breakpoint was hit before a slice: as the slice before left it, or as the kept events say.
-fn tally_before_slice(lab: &Lab, settings: &Configuration, tally: Option<HitTally>) -> HitTally
-    ensures { result ≡ tally_before_slice lab.now settings.now tally }
+fn hit_tally_before_slice(lab: &Lab, settings: &Configuration, tally: Option<HitTally>) -> HitTally
+    ensures { result ≡ hit_tally_before_slice lab.now settings.now tally }
 {
     match tally {
         Some(tally) => tally,
-        None => count_kept_hits(lab, settings.points.points.as_slice()),
+        None => count_hits_in_history(lab, settings.points.points.as_slice()),
     }
 }
 
@@ -66,9 +66,9 @@ fn go_on_slice(
 ) -> MoveResult
     ensures { ContinuesForSlice program.old settings.now execution.old program.new execution.new result }
 {
-    let tally = tally_before_slice(&program.lab, settings, execution.tally);
-    let halts = settings.halts(tally);
-    let went = continue_run(
+    let tally = hit_tally_before_slice(&program.lab, settings, execution.tally);
+    let halts = settings.halt_conditions_with_tally(tally);
+    let went = make_continue_slice(
         &mut program.lab,
         execution.schedule,
         halts,
@@ -87,16 +87,16 @@ fn step_by(
     execution: &mut Execution,
     stepping: StepMove,
 ) -> MoveResult
-    ensures state { running lab.new result.schedule ≡ precedence_run_after (Some stepping.node) (running lab.old execution.old.schedule) result.events }
-    ensures most { result.events ≤ slice_limit }
-    ensures hits { result.tally ≡ tally_after_events (Some stepping.node) settings.now.points.points.items (tally_before_slice lab.old settings.now execution.old.tally) (running lab.old execution.old.schedule) result.events }
-    ensures end { IsMoveResult (step_plan notes.now settings.now.points.points.items (tally_before_slice lab.old settings.now execution.old.tally) settings.now.stops stepping (running lab.old execution.old.schedule)) (running lab.old execution.old.schedule) slice_limit result.events result.halt }
-    ensures next { execution.new ≡ record execution.old { schedule = result.schedule; tally = Some result.tally; goal = Some (RunGoal.Step (move_after_events stepping (running lab.old execution.old.schedule) result.events)) } }
+    ensures state { scheduled_machine lab.new result.schedule ≡ run_after_events_with_precedence (Some stepping.node) (scheduled_machine lab.old execution.old.schedule) result.events }
+    ensures most { result.events ≤ slice_event_limit }
+    ensures hits { result.tally ≡ tally_after_events (Some stepping.node) settings.now.points.points.items (hit_tally_before_slice lab.old settings.now execution.old.tally) (scheduled_machine lab.old execution.old.schedule) result.events }
+    ensures end { IsMoveResult (step_plan notes.now settings.now.points.points.items (hit_tally_before_slice lab.old settings.now execution.old.tally) settings.now.stops stepping (scheduled_machine lab.old execution.old.schedule)) (scheduled_machine lab.old execution.old.schedule) slice_event_limit result.events result.halt }
+    ensures next { execution.new ≡ record execution.old { schedule = result.schedule; tally = Some result.tally; goal = Some (RunGoal.Step (move_after_events stepping (scheduled_machine lab.old execution.old.schedule) result.events)) } }
 {
     let mut by = stepping;
-    let tally = tally_before_slice(lab, settings, execution.tally);
-    let halts = settings.halts(tally);
-    let went = continue_step(
+    let tally = hit_tally_before_slice(lab, settings, execution.tally);
+    let halts = settings.halt_conditions_with_tally(tally);
+    let went = make_step_slice(
         lab,
         execution.schedule,
         &mut by,
@@ -138,7 +138,7 @@ fn advance(
     execution: &mut Execution,
     goal: RunGoal,
 ) -> MoveResult
-    ensures { AdvancesByGoal goal program.old settings.now execution.old program.new execution.new result }
+    ensures { AdvancesRunByGoal goal program.old settings.now execution.old program.new execution.new result }
 {
     match goal {
         RunGoal::Continue => go_on_slice(program, settings, execution),
@@ -165,7 +165,7 @@ fn make_slice_for(
     execution: &mut Execution,
     goal: Option<RunGoal>,
 ) -> Option<StopReason>
-    ensures { MakesSliceOfGoal goal program.old settings.now execution.old program.new execution.new result }
+    ensures { MakesSliceIfRunning goal program.old settings.now execution.old program.new execution.new result }
 {
     match goal {
         Some(goal) => make_slice_of(program, settings, execution, goal),
@@ -180,7 +180,7 @@ fn make_slice_of(
     execution: &mut Execution,
     goal: RunGoal,
 ) -> Option<StopReason>
-    ensures { MakesSliceOfGoal (Some goal) program.old settings.now execution.old program.new execution.new result }
+    ensures { MakesSliceIfRunning (Some goal) program.old settings.now execution.old program.new execution.new result }
 {
     let before = stuck_of(program);
     match unreported(program, settings, execution, &before) {
@@ -207,7 +207,7 @@ fn make_events(
     goal: RunGoal,
     before: &[bool; 144],
 ) -> Option<StopReason>
-    ensures { MakesSliceEvents goal before.now program.old settings.now execution.old program.new execution.new result }
+    ensures { MakesSliceGivenDeadlocked goal before.now program.old settings.now execution.old program.new execution.new result }
 {
     let went = advance(program, settings, execution, goal);
     let now = stuck_of(program);

@@ -2,13 +2,13 @@
 
 ghost use Rattle.std.specs.Prelude.{◌≡◌, ◌<◌, length, position, codes, option_map, option_and_then, Some, IfSome};
 ghost use Rattle.serde_json.specs.View.{view};
-ghost use Rattle.ga_dap_protocol.specs.Messages.{member_text};
+ghost use Rattle.ga_dap_protocol.specs.Messages.{member_as_text};
 ghost use Rattle.ga_dap_queries.specs.Disassembling.{signed_member_or_zero, wrapped_address_offset};
-ghost use Rattle.ga_dap_control.specs.Placing.{requested_line, source_breakpoint_location, has_label_text, breakpoint_of_any_label, breakpoint_of_node_label, has_node_prefix, node_prefix, function_breakpoint, instruction_breakpoint_at, data_breakpoint_at, location_without_line, IsBreakpointOfReference, IsBreakpointLocation};
+ghost use Rattle.ga_dap_control.specs.Placing.{requested_source_line, source_breakpoint_location, has_label_text, breakpoint_of_any_label, breakpoint_of_node_label, has_node_prefix, node_of_prefix, function_breakpoint, instruction_breakpoint_at, data_breakpoint_at, location_without_line, IsBreakpointOfReference, IsBreakpointLocation};
 
 use crate::configuration::BreakpointKind;
-use ga_dap_breakpoints::{Breakpoint, Watched, breakpoint_of_address, breakpoint_of_line};
-use ga_dap_protocol::{member_number, member_text};
+use ga_dap_breakpoints::{Breakpoint, WatchedAction, breakpoint_of_address, breakpoint_of_line};
+use ga_dap_protocol::{member_as_number, member_as_text};
 use ga_dap_queries::{
     Debuggee, parse_signed_member, resolve_memory_reference, wrapped_address_offset,
 };
@@ -25,7 +25,7 @@ pub struct BreakpointLocation {
 }
 
 /// The place of a requested breakpoint; none if there is no such place.
-pub fn resolve_breakpoint(
+pub fn resolve_breakpoint_location(
     program: &Debuggee,
     family: BreakpointKind,
     asked: &Value,
@@ -33,24 +33,24 @@ pub fn resolve_breakpoint(
     ensures { IsBreakpointLocation program.now family (view asked.now) result }
 {
     match family {
-        BreakpointKind::Source => source_breakpoint_location(program.notes(), asked),
-        BreakpointKind::Function => found_at_label(program.notes(), asked),
+        BreakpointKind::Source => source_breakpoint_location(program.source_debug_info(), asked),
+        BreakpointKind::Function => found_at_label(program.source_debug_info(), asked),
         BreakpointKind::Instruction => found_at_address(program, asked),
         BreakpointKind::Data => found_cell(program, asked),
     }
 }
 
-fn requested_line(asked: &Value) -> Option<u32>
-    ensures { result ≡ requested_line (view asked.now) }
+fn requested_source_line(asked: &Value) -> Option<u32>
+    ensures { result ≡ requested_source_line (view asked.now) }
 {
-    let line = member_number(asked, "line")?;
+    let line = member_as_number(asked, "line")?;
     u32::try_from(line).ok()
 }
 
 fn source_breakpoint_location(notes: &DebugInfo, asked: &Value) -> Option<BreakpointLocation>
     ensures { result ≡ source_breakpoint_location notes.now (view asked.now) }
 {
-    let found = breakpoint_of_line(notes, requested_line(asked)?)?;
+    let found = breakpoint_of_line(notes, requested_source_line(asked)?)?;
     Some(BreakpointLocation {
         breakpoint: found.breakpoint,
         line: Some(found.line),
@@ -98,7 +98,7 @@ fn breakpoint_of_any_label(names: &[LabelAddress], label: &[u8]) -> Option<Break
 fn breakpoint_of_node_label(notes: &DebugInfo, node: NodeId, label: &[u8]) -> Option<Breakpoint>
     ensures { result ≡ breakpoint_of_node_label notes.now.names.items node label.now }
 {
-    match notes.label_address_of(node, label) {
+    match notes.label_address_of_node(node, label) {
         Some(address) => breakpoint_of_address(node, address),
         None => None,
     }
@@ -112,8 +112,8 @@ fn has_node_prefix(text: &[u8]) -> bool
 }
 
 /// The node that is named before a label.
-fn node_prefix(text: &[u8]) -> Option<NodeId>
-    ensures value { result ≡ node_prefix text.now }
+fn node_of_prefix(text: &[u8]) -> Option<NodeId>
+    ensures value { result ≡ node_of_prefix text.now }
     ensures within { IfSome result (λ node. 3 < length text.now) }
 {
     if has_node_prefix(text) {
@@ -127,7 +127,7 @@ fn node_prefix(text: &[u8]) -> Option<NodeId>
 fn function_breakpoint(notes: &DebugInfo, text: &[u8]) -> Option<Breakpoint>
     ensures { result ≡ function_breakpoint notes.now.names.items text.now }
 {
-    match node_prefix(text) {
+    match node_of_prefix(text) {
         Some(node) => {
             let (_, label) = text.split_at(4);
             breakpoint_of_node_label(notes, node, label)
@@ -137,9 +137,9 @@ fn function_breakpoint(notes: &DebugInfo, text: &[u8]) -> Option<Breakpoint>
 }
 
 fn found_at_label(notes: &DebugInfo, asked: &Value) -> Option<BreakpointLocation>
-    ensures { result ≡ option_map location_without_line (option_and_then (function_breakpoint notes.now.names.items) (member_text (codes "name") (view asked.now))) }
+    ensures { result ≡ option_map location_without_line (option_and_then (function_breakpoint notes.now.names.items) (member_as_text (codes "name") (view asked.now))) }
 {
-    match member_text(asked, "name") {
+    match member_as_text(asked, "name") {
         Some(text) => location_without_line(function_breakpoint(notes, text.as_bytes())),
         None => None,
     }
@@ -192,7 +192,7 @@ fn found_at_address(program: &Debuggee, asked: &Value) -> Option<BreakpointLocat
     ensures { IsBreakpointLocation program.now BreakpointKind.Instruction (view asked.now) result }
 {
     let on = cells_given(asked);
-    location_without_line(behind_reference(member_text(asked, "instructionReference"), on))
+    location_without_line(behind_reference(member_as_text(asked, "instructionReference"), on))
 }
 
 /// A breakpoint that is hit where a cell of RAM is written.
@@ -202,7 +202,7 @@ fn data_breakpoint_at(at: (NodeId, u8)) -> Option<Breakpoint>
     if at.1 < 128 {
         Some(Breakpoint {
             node: at.0,
-            watched: Watched::Writes(at.1),
+            watched: WatchedAction::WritesWatchedCell(at.1),
             condition: None,
             hits: None,
         })
@@ -234,5 +234,5 @@ fn writes_text(text: &str) -> Option<Breakpoint>
 fn found_cell(program: &Debuggee, asked: &Value) -> Option<BreakpointLocation>
     ensures { IsBreakpointLocation program.now BreakpointKind.Data (view asked.now) result }
 {
-    location_without_line(writes_referred(member_text(asked, "dataId")))
+    location_without_line(writes_referred(member_as_text(asked, "dataId")))
 }

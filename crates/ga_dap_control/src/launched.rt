@@ -7,9 +7,9 @@ ghost use Rattle.ga_dap_queries.specs.Sending.{SendsMessage, SendsMessages, Mess
 
 use crate::breakpoints::{replace_breakpoints, set_exception_filters, set_line_breakpoints};
 use crate::configuration::{BreakpointKind, Configuration};
-use crate::configuring::configure;
+use crate::configuring::respond_configuration_done;
 use crate::execution::Execution;
-use crate::moving::{DapStepKind, begin_continue, begin_step, pause};
+use crate::moving::{DapStepKind, begin_continue, begin_step, respond_pause};
 use ga_dap_protocol::{ClientRequest, Outbox};
 use ga_dap_queries::{
     Debuggee, RequestName, respond_data_breakpoint_info, respond_disassemble,
@@ -20,7 +20,7 @@ use std::alloc::{AllocError, Global};
 
 /// What was launched, what the client set of it, and its run.
 #[derive(Drop)]
-pub struct LaunchedProgram {
+pub struct LaunchedSession {
     pub program: Debuggee,
     pub settings: Configuration,
     pub execution: Execution,
@@ -30,7 +30,7 @@ pub struct LaunchedProgram {
 #[tactic(auto, using(crate::proofs::Answered::sets_so))]
 fn set_lines_of(
     alloc: Global,
-    launched: &mut LaunchedProgram,
+    launched: &mut LaunchedSession,
     request: &ClientRequest,
     out: &mut Outbox,
 ) -> Result<(), AllocError>
@@ -46,7 +46,7 @@ fn set_lines_of(
 /// Sets the breakpoints on no line that a request asks for. Hits are counted anew.
 fn set_points_of(
     alloc: Global,
-    launched: &mut LaunchedProgram,
+    launched: &mut LaunchedSession,
     family: BreakpointKind,
     request: &ClientRequest,
     out: &mut Outbox,
@@ -63,7 +63,7 @@ fn set_points_of(
 /// `setExceptionBreakpoints`. Hits are counted anew.
 #[tactic(auto, using(crate::proofs::Answered::sets_so))]
 fn set_filters_of(
-    launched: &mut LaunchedProgram,
+    launched: &mut LaunchedSession,
     request: &ClientRequest,
     out: &mut Outbox,
 ) -> Result<(), AllocError>
@@ -78,7 +78,7 @@ fn set_filters_of(
 /// Answers a request that makes no event and takes none back.
 pub fn answer_immediate_request(
     alloc: Global,
-    launched: &mut LaunchedProgram,
+    launched: &mut LaunchedSession,
     command: RequestName,
     request: &ClientRequest,
     out: &mut Outbox,
@@ -99,7 +99,7 @@ pub fn answer_immediate_request(
         }
         RequestName::DataBreakpointInfo => respond_data_breakpoint_info(alloc, request, out),
         RequestName::SetExceptionBreakpoints => set_filters_of(launched, request, out),
-        RequestName::ConfigurationDone => configure(
+        RequestName::ConfigurationDone => respond_configuration_done(
             alloc,
             &launched.program,
             &mut launched.execution,
@@ -139,7 +139,7 @@ pub fn answer_immediate_request(
             DapStepKind::Out,
             out,
         ),
-        RequestName::Pause => pause(
+        RequestName::Pause => respond_pause(
             alloc,
             &launched.program,
             &mut launched.execution,

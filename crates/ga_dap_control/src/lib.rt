@@ -18,6 +18,6 @@ mod stops;
 pub use back::{RollbackSummary, reverse_continue_node, rollback_summary_text, step_back_node};
 pub use configuration::{BreakpointKind, BreakpointSet, Configuration, PlacedBreakpoint};
 pub use execution::{Execution, RunGoal, make_event_slice};
-pub use launched::{LaunchedProgram, answer_immediate_request};
+pub use launched::{LaunchedSession, answer_immediate_request};
 pub use stop_reason::StopReason;
 pub use stops::emit_run_end;

@@ -2,9 +2,9 @@
 
 ghost use Rattle.std.specs.Prelude.{◌≡◌, ◌==◌, Option, unwrap_or, IfOk, OnOk, OnErr};
 ghost use Rattle.serde_json.specs.View.{view};
-ghost use Rattle.ga_grid.specs.Chip.{record_at};
+ghost use Rattle.ga_grid.specs.Chip.{node_record_at};
 ghost use Rattle.ga_grid.specs.declared.node_id.NodeId.{NodeId as ANode};
-ghost use Rattle.ga_lab.specs.Machine.{chip_of};
+ghost use Rattle.ga_lab.specs.Machine.{chip_of_machine};
 ghost use Rattle.ga_dap_queries.specs.Arguments.{IsThreadArgument};
 ghost use Rattle.ga_dap_control.specs.Back.{requested_granularity};
 ghost use Rattle.ga_dap_queries.specs.Sending.{SendsMessage, SendsMessages, Message, Messages, bare_success_response};
@@ -13,8 +13,8 @@ ghost use Rattle.ga_dap_control.specs.Moving.{continue_body, execution_with_goal
 use crate::configuring::first_of;
 use crate::execution::{Execution, RunGoal};
 use ga_dap_breakpoints::{Granularity, StepMove};
-use ga_dap_protocol::{ClientRequest, Outbox, member_text};
-use ga_dap_queries::{Debuggee, emit_stopped, thread_argument};
+use ga_dap_protocol::{ClientRequest, Outbox, member_as_text};
+use ga_dap_queries::{Debuggee, emit_stopped_event, thread_argument};
 use ga_grid::NodeId;
 use ga_lab::Lab;
 use serde_json::{Value, json};
@@ -52,7 +52,7 @@ pub fn requested_granularity(program: &Debuggee, arguments: &Value) -> Granulari
     if program.source.is_none() {
         return Granularity::Instruction;
     }
-    match member_text(arguments, "granularity") {
+    match member_as_text(arguments, "granularity") {
         None => Granularity::Line,
         Some(name) => {
             if name == "instruction" {
@@ -140,7 +140,7 @@ pub fn begin_step(
 
 /// Whether a node isn't stopped.
 fn can_step(lab: &Lab, node: NodeId) -> bool
-    ensures { result ≡ ((record_at (chip_of lab.now) node.number).stop == 0) }
+    ensures { result ≡ ((node_record_at (chip_of_machine lab.now) node.number).stop == 0) }
 {
     lab.node(node).stop() == 0
 }
@@ -219,7 +219,7 @@ fn tell_paused(
     out.acknowledge(request)?;
     let first = first_of(program);
     let node = node_or(&request.arguments, first);
-    emit_stopped(alloc, "pause", "pause", node, out)
+    emit_stopped_event(alloc, "pause", "pause", node, out)
 }
 
 /// Reports that no run is in progress any longer.
@@ -239,7 +239,7 @@ fn tell_pause(
 }
 
 /// `pause`: ends the run under way.
-pub fn pause(
+pub fn respond_pause(
     alloc: Global,
     program: &Debuggee,
     execution: &mut Execution,

@@ -3,11 +3,11 @@
 ghost use Rattle.std.specs.Prelude.{◌≡◌, ◌+◌, ◌%◌, ◌^◌, ◌++◌, ◌∷◌, [], map, string_bytes, Option, Some, IfOk, OnOk};
 ghost use Rattle.serde_json.specs.View.{view};
 ghost use Rattle.ga_dap_control.specs.declared.finding.BreakpointLocation.{BreakpointLocation as APlace};
-ghost use Rattle.ga_dap_control.specs.Placing.{BreakpointPlacement, IsBreakpointLocation, unverified_breakpoint_object, verified_breakpoint_object, verified_line_breakpoint_object, verified_breakpoint, breakpoint_object, placed_breakpoints, next_placement, PlacesBreakpoint, PlacesBreakpoints};
-ghost use Rattle.ga_dap_control.specs.inner.{placement_of};
+ghost use Rattle.ga_dap_control.specs.Placing.{BreakpointPlacement, IsBreakpointLocation, unverified_breakpoint_object, verified_breakpoint_object, verified_line_breakpoint_object, breakpoint_object_with_line_if_any, breakpoint_object, placed_breakpoint_or_empty, placement_after_breakpoint, PlacesBreakpoint, PlacesBreakpoints};
+ghost use Rattle.ga_dap_control.specs.inner.{placement_of_progress};
 
 use crate::configuration::{BreakpointKind, PlacedBreakpoint};
-use crate::finding::{BreakpointLocation, resolve_breakpoint};
+use crate::finding::{BreakpointLocation, resolve_breakpoint_location};
 use crate::requested_breakpoint::{PlacementError, placement_error_text, requested_breakpoint};
 use ga_dap_breakpoints::Breakpoint;
 use ga_dap_queries::Debuggee;
@@ -16,7 +16,7 @@ use std::alloc::{AllocError, Global};
 
 /// What came of the breakpoints of a request so far.
 #[derive(Drop)]
-pub struct Placing {
+pub struct PlacementProgress {
     /// What is sent for each breakpoint.
     pub told: Vec<Value>,
     /// The breakpoints that are set.
@@ -52,13 +52,13 @@ fn verified_on_line(
     json!(in alloc; {"id": id, "line": line, "source": {"name": name, "path": path}, "verified": true})
 }
 
-fn verified_breakpoint(
+fn breakpoint_object_with_line_if_any(
     alloc: Global,
     program: &Debuggee,
     id: u64,
     line: Option<u32>,
 ) -> Result<Value, AllocError>
-    ensures { IfOk result (λ v. view v ≡ verified_breakpoint program.now id line) }
+    ensures { IfOk result (λ v. view v ≡ breakpoint_object_with_line_if_any program.now id line) }
 {
     match line {
         Some(line) => {
@@ -85,7 +85,7 @@ fn breakpoint_object(
     ensures { IfOk result (λ v. view v ≡ breakpoint_object program.now family id found) }
 {
     match found {
-        Ok(found) => verified_breakpoint(alloc, program, id, found.line),
+        Ok(found) => breakpoint_object_with_line_if_any(alloc, program, id, found.line),
         Err(why) => unverified(alloc, id, placement_error_text(family, why)),
     }
 }
@@ -97,7 +97,7 @@ fn add_found(
     id: u64,
     found: Result<BreakpointLocation, PlacementError>,
 ) -> Result<(), AllocError>
-    ensures { OnOk result (placed.new.items ≡ placed.old.items ++ placed_breakpoints family id found) }
+    ensures { OnOk result (placed.new.items ≡ placed.old.items ++ placed_breakpoint_or_empty family id found) }
 {
     match found {
         Ok(found) => add_one(placed, family, id, found.breakpoint),
@@ -127,9 +127,9 @@ fn place_found(
     program: &Debuggee,
     family: BreakpointKind,
     found: Result<BreakpointLocation, PlacementError>,
-    placing: &mut Placing,
+    placing: &mut PlacementProgress,
 ) -> Result<(), AllocError>
-    ensures { OnOk result (placement_of placing.new ≡ next_placement program.now family found (placement_of placing.old)) }
+    ensures { OnOk result (placement_of_progress placing.new ≡ placement_after_breakpoint program.now family found (placement_of_progress placing.old)) }
 {
     let id = placing.next;
     let told = breakpoint_object(alloc, program, family, id, found)?;
@@ -145,12 +145,12 @@ fn place_one(
     program: &Debuggee,
     family: BreakpointKind,
     asked: &Value,
-    placing: &mut Placing,
+    placing: &mut PlacementProgress,
 ) -> Result<(), AllocError>
-    ensures { OnOk result (PlacesBreakpoint program.now family (view asked.now) (placement_of placing.old) (placement_of placing.new)) }
+    ensures { OnOk result (PlacesBreakpoint program.now family (view asked.now) (placement_of_progress placing.old) (placement_of_progress placing.new)) }
 {
-    let found = resolve_breakpoint(program, family, asked);
-    let names = program.notes().names.as_slice();
+    let found = resolve_breakpoint_location(program, family, asked);
+    let names = program.source_debug_info().names.as_slice();
     let asked = requested_breakpoint(names, found, placing.placed.len(), asked);
     place_found(alloc, program, family, asked, placing)
 }
@@ -162,9 +162,9 @@ pub(crate) fn place_all(
     program: &Debuggee,
     family: BreakpointKind,
     asked: &[Value],
-    placing: &mut Placing,
+    placing: &mut PlacementProgress,
 ) -> Result<(), AllocError>
-    ensures { OnOk result (PlacesBreakpoints program.now family (map view asked.now) (placement_of placing.old) (placement_of placing.new)) }
+    ensures { OnOk result (PlacesBreakpoints program.now family (map view asked.now) (placement_of_progress placing.old) (placement_of_progress placing.new)) }
 {
     'asked: for one in asked {
         place_one(alloc, program, family, one, placing)?;

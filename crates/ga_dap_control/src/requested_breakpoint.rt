@@ -2,16 +2,16 @@
 
 ghost use Rattle.std.specs.Prelude.{◌≡◌, codes, Some};
 ghost use Rattle.serde_json.specs.View.{view};
-ghost use Rattle.ga_dap_protocol.specs.Messages.{member_text};
+ghost use Rattle.ga_dap_protocol.specs.Messages.{member_as_text};
 ghost use Rattle.ga_dap_breakpoints.specs.Saying.{parse_hit_condition};
 ghost use Rattle.ga_conditions.specs.Tests.{parsed_value_test};
-ghost use Rattle.ga_dap_control.specs.Placing.{is_member_not_text, with_parsed_condition, with_condition, with_parsed_hit_condition, with_hit_condition, location_with_conditions, requested_breakpoint, no_location_text, placement_error_text};
+ghost use Rattle.ga_dap_control.specs.Placing.{is_member_not_text, location_with_parsed_condition, location_with_condition, location_with_parsed_hit_condition, location_with_hit_condition, location_with_conditions, requested_breakpoint, no_location_text, placement_error_text};
 
 use crate::configuration::BreakpointKind;
 use crate::finding::BreakpointLocation;
 use ga_conditions::parse_value_test;
 use ga_dap_breakpoints::{Breakpoint, MAX_COUNTED_BREAKPOINTS, parse_hit_condition};
-use ga_dap_protocol::member_text;
+use ga_dap_protocol::member_as_text;
 use ga_debug_info::LabelAddress;
 use ga_scheduler::ValueTest;
 use serde_json::Value;
@@ -20,15 +20,15 @@ use serde_json::Value;
 #[derive(Clone, Copy, PartialEq, Eq, Debug)]
 pub enum PlacementError {
     /// There is no such place.
-    Nowhere,
+    NoSuchPlace,
     /// The breakpoint's condition can't be read.
-    Condition,
+    UnreadableCondition,
     /// The breakpoint's condition has a number that no word is.
-    Range,
+    ConditionOutOfRange,
     /// The breakpoint's hit condition can't be read.
-    Hits,
+    UnreadableHitCondition,
     /// Hits are counted of as many breakpoints already as may be.
-    Uncounted,
+    TooManyCountedBreakpoints,
 }
 
 /// Why there is no such place as the request names.
@@ -48,12 +48,14 @@ pub fn placement_error_text(family: BreakpointKind, why: PlacementError) -> &'st
     ensures { result.now ≡ placement_error_text family why }
 {
     match why {
-        PlacementError::Nowhere => unfound(family),
-        PlacementError::Condition =>
+        PlacementError::NoSuchPlace => unfound(family),
+        PlacementError::UnreadableCondition =>
             "condition: a register or [HH], then = != < <= > or >=, then a number, port or label",
-        PlacementError::Range => "condition: the number is past 0x3ffff, the last word",
-        PlacementError::Hits => "hitCondition: N, >= N or % N, from 1 on",
-        PlacementError::Uncounted => "hitCondition: hits are counted of 64 breakpoints at most",
+        PlacementError::ConditionOutOfRange =>
+            "condition: the number is past 0x3ffff, the last word",
+        PlacementError::UnreadableHitCondition => "hitCondition: N, >= N or % N, from 1 on",
+        PlacementError::TooManyCountedBreakpoints =>
+            "hitCondition: hits are counted of 64 breakpoints at most",
     }
 }
 
@@ -81,49 +83,49 @@ fn with_test(place: BreakpointLocation, test: ValueTest) -> BreakpointLocation
 }
 
 /// A breakpoint at a place, with the condition that a text says.
-fn with_parsed_condition(
+fn location_with_parsed_condition(
     names: &[LabelAddress],
     place: BreakpointLocation,
     text: &[u8],
 ) -> Result<BreakpointLocation, PlacementError>
-    ensures { result ≡ with_parsed_condition place (parsed_value_test names.now place.breakpoint.node text.now) }
+    ensures { result ≡ location_with_parsed_condition place (parsed_value_test names.now place.breakpoint.node text.now) }
 {
     match parse_value_test(names, place.breakpoint.node, text) {
         Some(test) => {
-            if test.can_be_passed() {
+            if test.is_test_number_in_range() {
                 Ok(with_test(place, test))
             } else {
-                Err(PlacementError::Range)
+                Err(PlacementError::ConditionOutOfRange)
             }
         }
-        None => Err(PlacementError::Condition),
+        None => Err(PlacementError::UnreadableCondition),
     }
 }
 
 /// A breakpoint at a place, with the requested condition, if there is one.
-fn with_condition(
+fn location_with_condition(
     names: &[LabelAddress],
     place: BreakpointLocation,
     asked: &Value,
 ) -> Result<BreakpointLocation, PlacementError>
-    ensures { result ≡ with_condition names.now place (is_member_not_text (codes "condition") (view asked.now)) (member_text (codes "condition") (view asked.now)) }
+    ensures { result ≡ location_with_condition names.now place (is_member_not_text (codes "condition") (view asked.now)) (member_as_text (codes "condition") (view asked.now)) }
 {
     if is_member_not_text(asked, "condition") {
-        return Err(PlacementError::Condition);
+        return Err(PlacementError::UnreadableCondition);
     }
-    match member_text(asked, "condition") {
-        Some(text) => with_parsed_condition(names, place, text.as_bytes()),
+    match member_as_text(asked, "condition") {
+        Some(text) => location_with_parsed_condition(names, place, text.as_bytes()),
         None => Ok(place),
     }
 }
 
 /// A breakpoint at a place, with the hit condition of a text, given the number of breakpoints before it.
-fn with_parsed_hit_condition(
+fn location_with_parsed_hit_condition(
     place: BreakpointLocation,
     before: usize,
     text: &[u8],
 ) -> Result<BreakpointLocation, PlacementError>
-    ensures { result ≡ with_parsed_hit_condition place before (parse_hit_condition text.now) }
+    ensures { result ≡ location_with_parsed_hit_condition place before (parse_hit_condition text.now) }
 {
     match parse_hit_condition(text) {
         Some(hits) => {
@@ -136,26 +138,26 @@ fn with_parsed_hit_condition(
                     ..place
                 })
             } else {
-                Err(PlacementError::Uncounted)
+                Err(PlacementError::TooManyCountedBreakpoints)
             }
         }
-        None => Err(PlacementError::Hits),
+        None => Err(PlacementError::UnreadableHitCondition),
     }
 }
 
 /// A breakpoint at a place, with its hit condition, if any.
-fn with_hit_condition(
+fn location_with_hit_condition(
     place: BreakpointLocation,
     before: usize,
     asked: &Value,
 ) -> Result<BreakpointLocation, PlacementError>
-    ensures { result ≡ with_hit_condition place before (is_member_not_text (codes "hitCondition") (view asked.now)) (member_text (codes "hitCondition") (view asked.now)) }
+    ensures { result ≡ location_with_hit_condition place before (is_member_not_text (codes "hitCondition") (view asked.now)) (member_as_text (codes "hitCondition") (view asked.now)) }
 {
     if is_member_not_text(asked, "hitCondition") {
-        return Err(PlacementError::Hits);
+        return Err(PlacementError::UnreadableHitCondition);
     }
-    match member_text(asked, "hitCondition") {
-        Some(text) => with_parsed_hit_condition(place, before, text.as_bytes()),
+    match member_as_text(asked, "hitCondition") {
+        Some(text) => location_with_parsed_hit_condition(place, before, text.as_bytes()),
         None => Ok(place),
     }
 }
@@ -169,8 +171,8 @@ fn location_with_conditions(
 ) -> Result<BreakpointLocation, PlacementError>
     ensures { result ≡ location_with_conditions names.now place before (view asked.now) }
 {
-    match with_condition(names, place, asked) {
-        Ok(place) => with_hit_condition(place, before, asked),
+    match location_with_condition(names, place, asked) {
+        Ok(place) => location_with_hit_condition(place, before, asked),
         Err(why) => Err(why),
     }
 }
@@ -186,6 +188,6 @@ pub fn requested_breakpoint(
 {
     match found {
         Some(place) => location_with_conditions(names, place, before, asked),
-        None => Err(PlacementError::Nowhere),
+        None => Err(PlacementError::NoSuchPlace),
     }
 }

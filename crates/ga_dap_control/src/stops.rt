@@ -3,17 +3,17 @@
 ghost use Rattle.std.specs.Prelude.{◌≡◌, ◌++◌, Some, codes, string_bytes, IfOk, OnOk, OnErr};
 ghost use Rattle.serde_json.specs.View.{view};
 ghost use Rattle.ga_text.specs.Lines.{Text};
-ghost use Rattle.ga_dap_protocol.specs.Messages.{member_text};
+ghost use Rattle.ga_dap_protocol.specs.Messages.{member_as_text};
 ghost use Rattle.ga_dap_queries.specs.Sending.{SendsMessage, Message};
-ghost use Rattle.ga_dap_control.specs.Stopping.{breakpoint_hit_message, hit_breakpoint_ids, lab_fault_text, exception_stop_message, stop_message, IsStopMessage};
+ghost use Rattle.ga_dap_control.specs.Stopping.{breakpoint_hit_message, hit_breakpoint_ids, lab_fault_text, exception_stop_message, stop_reason_message, IsStopReasonMessage};
 
 use crate::configuration::Configuration;
 use crate::configuring::first_of;
 use crate::stop_reason::StopReason;
-use ga_dap_protocol::{Outbox, member_text};
-use ga_dap_queries::{Debuggee, emit_breakpoint_hit, emit_stopped, exception_info};
+use ga_dap_protocol::{Outbox, member_as_text};
+use ga_dap_queries::{Debuggee, emit_breakpoint_hit, emit_stopped_event, make_exception_info_body};
 use ga_grid::NodeId;
-use ga_lab::{LabFault, Made};
+use ga_lab::{LabFault, MadeEvent};
 use serde_json::Value;
 use std::alloc::{AllocError, Global};
 
@@ -23,7 +23,7 @@ fn words_of(why: LabFault) -> &'static str
     match why {
         LabFault::Full => "full: as many events are kept as may be",
         LabFault::Memory => "memory was refused to the next event",
-        LabFault::Spent => "spent: as many events were made as can be counted",
+        LabFault::EventNumbersSpent => "spent: as many events were made as can be counted",
         LabFault::Waiting => "the node waits",
         LabFault::Stopped => "the node is stopped",
         LabFault::Empty => "nothing is kept",
@@ -33,10 +33,10 @@ fn words_of(why: LabFault) -> &'static str
 
 /// The description of `exceptionInfo`, followed by a text.
 fn text_behind(alloc: Global, info: &Value, behind: &str) -> Result<String, AllocError>
-    ensures { IfOk result (λ text. (does : Text) → member_text (codes "description") (view info.now) ≡ Some does → string_bytes text ≡ does ++ behind.now) }
+    ensures { IfOk result (λ text. (does : Text) → member_as_text (codes "description") (view info.now) ≡ Some does → string_bytes text ≡ does ++ behind.now) }
 {
     let mut text = String::new(alloc);
-    if let Some(does) = member_text(info, "description") {
+    if let Some(does) = member_as_text(info, "description") {
         text.push_str(does)?;
     }
     text.push_str(behind)?;
@@ -54,9 +54,9 @@ fn tell_fault(
     ensures sent { OnOk result (SendsMessage out.old (exception_stop_message program.now node.number behind.now) out.new) }
     ensures err { OnErr result (out.new ≡ out.old) }
 {
-    let info = exception_info(alloc, &program.lab, false, node)?;
+    let info = make_exception_info_body(alloc, &program.lab, false, node)?;
     let text = text_behind(alloc, &info, behind)?;
-    emit_stopped(alloc, "exception", text.as_str(), node, out)
+    emit_stopped_event(alloc, "exception", text.as_str(), node, out)
 }
 
 /// Reports the breakpoints that this event hit.
@@ -67,7 +67,7 @@ fn tell_hits(
     reason: &str,
     description: &str,
     node: NodeId,
-    made: &Made,
+    made: &MadeEvent,
     out: &mut Outbox,
 ) -> Result<(), AllocError>
     ensures sent { OnOk result (SendsMessage out.old (breakpoint_hit_message reason.now description.now node.number (hit_breakpoint_ids made.now program.now.lab settings.now.points.placed.items)) out.new) }
@@ -88,7 +88,7 @@ pub fn emit_run_end(
     stop: StopReason,
     out: &mut Outbox,
 ) -> Result<(), AllocError>
-    ensures sent { OnOk result ((message : Message) × IsStopMessage program.now settings.now stop message × SendsMessage out.old message out.new) }
+    ensures sent { OnOk result ((message : Message) × IsStopReasonMessage program.now settings.now stop message × SendsMessage out.old message out.new) }
     ensures err { OnErr result (out.new ≡ out.old) }
 {
     let first = first_of(program);
@@ -104,28 +104,28 @@ fn tell_stop_at(
     first: NodeId,
     out: &mut Outbox,
 ) -> Result<(), AllocError>
-    ensures sent { OnOk result (SendsMessage out.old (stop_message program.now settings.now.points.placed.items first.number stop) out.new) }
+    ensures sent { OnOk result (SendsMessage out.old (stop_reason_message program.now settings.now.points.placed.items first.number stop) out.new) }
     ensures err { OnErr result (out.new ≡ out.old) }
 {
     match stop {
-        StopReason::Step(node) => emit_stopped(alloc, "step", "step", node, out),
+        StopReason::StepCompleted(node) => emit_stopped_event(alloc, "step", "step", node, out),
         StopReason::Breakpoint { node, made } => {
             let why = "breakpoint";
             tell_hits(alloc, program, settings, why, why, node, &made, out)
         }
-        StopReason::Write { node, made } => {
+        StopReason::WatchedCellWritten { node, made } => {
             let (reason, why) = ("data breakpoint", "a watched cell was written");
             tell_hits(alloc, program, settings, reason, why, node, &made, out)
         }
         StopReason::Stopped(node) => tell_fault(alloc, program, node, "", out),
         StopReason::Stuck(node) => tell_fault(alloc, program, node, ", and can never go on", out),
-        StopReason::Quiet => emit_stopped(
+        StopReason::Quiet => emit_stopped_event(
             alloc,
             "pause",
             "quiet: no node has an event",
             first,
             out,
         ),
-        StopReason::Refused(why) => emit_stopped(alloc, "pause", words_of(why), first, out),
+        StopReason::Refused(why) => emit_stopped_event(alloc, "pause", words_of(why), first, out),
     }
 }

@@ -1,7 +1,7 @@
 -- The laws of framing.
 use Rattle.std.proofs.Common.{◌≡◌, ◌≤◌, ◌+◌, ◌*◌, ◌-◌, ◌++◌, ℕ, suc, List, [], ◌∷◌, refl, subst, arith, ◌<◌, ◌/◌, ◌%◌, ◌^◌, ◌∙◌, zero, length, take, drop, get_or, decimal, sym, ap, append_assoc, length-append}
 use Rattle.std.specs.List.{All}
-use Rattle.ga_dap_protocol.specs.Framing.{IsDigit, decimal_value_from, content_limit, content_length_field, header_end, header_part, IsContentLength, IsMessage, IsMessagePrefix, CanBeginNoMessage, IsFramePrefix, framed_message}
+use Rattle.ga_dap_protocol.specs.Framing.{IsDigit, decimal_value_of_digits, content_limit, content_length_field, header_terminator, header_part, IsContentLength, IsMessage, IsMessagePrefix, CanBeginNoMessage, IsFramePrefix, framed_message}
 use Rattle.std.proofs.lemmas.List.{append_cancel_left, append-nil, take_at, drop_at, take-append-drop}
 use Rattle.std.proofs.lemmas.List.Elements.{All-append}
 use Rattle.std.proofs.lemmas.Fmt.{decimal_by_steps, length-decimal-le, decimal_nonempty}
@@ -41,11 +41,11 @@ run (d ∷ ds) (f ∷ es) xs zs h g e =
     let all_is : f ∷ es ≡ d ∷ (ds ++ r.0) = cc in
     (r.0, all_is, r.2)
 
-pub grows : (n : ℕ) (ds : List ℕ) → n ≤ decimal_value_from n ds
+pub grows : (n : ℕ) (ds : List ℕ) → n ≤ decimal_value_of_digits n ds
 grows n [] = omega arith
 grows n (d ∷ ds) = let h = grows (10 * n + (d - 48)) ds in omega arith
 
-pub value_more : (n : ℕ) (ds es : List ℕ) → decimal_value_from n (ds ++ es) ≡ decimal_value_from (decimal_value_from n ds) es
+pub value_more : (n : ℕ) (ds es : List ℕ) → decimal_value_of_digits n (ds ++ es) ≡ decimal_value_of_digits (decimal_value_of_digits n ds) es
 value_more n [] es = refl
 value_more n (d ∷ ds) es = value_more (10 * n + (d - 48)) ds es
 
@@ -67,14 +67,14 @@ pub both : (text other content inner after behind : List ℕ) → IsMessage cont
     text ++ after ≡ other ++ behind → (content ≡ inner) × (text ≡ other) × (after ≡ behind)
 both text other content inner after behind m k e =
     let whole : (header_part m.0 ++ content) ++ after ≡ (header_part k.0 ++ inner) ++ behind = sym (ap (λ z. z ++ after) m.2) ∙ e ∙ ap (λ z. z ++ behind) k.2 in
-    let cut : m.0 ++ (header_end ++ (content ++ after)) ≡ k.0 ++ (header_end ++ (inner ++ behind)) = parts content_length_field m.0 header_end content after k.0 inner behind whole in
-    let r = run m.0 k.0 (header_end ++ (content ++ after)) (10 ∷ (13 ∷ (10 ∷ (inner ++ behind)))) m.1.2 k.1.2 cut in
-    let none : r.0 ≡ [] = no_digit_first 13 r.0 (header_end ++ (inner ++ behind)) (10 ∷ (13 ∷ (10 ∷ (content ++ after)))) no_digit_return
+    let cut : m.0 ++ (header_terminator ++ (content ++ after)) ≡ k.0 ++ (header_terminator ++ (inner ++ behind)) = parts content_length_field m.0 header_terminator content after k.0 inner behind whole in
+    let r = run m.0 k.0 (header_terminator ++ (content ++ after)) (10 ∷ (13 ∷ (10 ∷ (inner ++ behind)))) m.1.2 k.1.2 cut in
+    let none : r.0 ≡ [] = no_digit_first 13 r.0 (header_terminator ++ (inner ++ behind)) (10 ∷ (13 ∷ (10 ∷ (content ++ after)))) no_digit_return
     (right_of IsDigit m.0 r.0 (subst (All IsDigit) r.1 k.1.2)) r.2 in
     let digits : k.0 ≡ m.0 = r.1 ∙ ap (λ z. m.0 ++ z) none ∙ append-nil m.0 in
-    let rest : header_end ++ (content ++ after) ≡ header_end ++ (inner ++ behind) = r.2 ∙ ap (λ z. z ++ (header_end ++ (inner ++ behind))) none in
-    let size : length content ≡ length inner = sym m.1.3 ∙ sym (ap (decimal_value_from 0) digits) ∙ k.1.3 in
-    let h = halves content inner after behind size (append_cancel_left header_end (content ++ after) (inner ++ behind) rest) in
+    let rest : header_terminator ++ (content ++ after) ≡ header_terminator ++ (inner ++ behind) = r.2 ∙ ap (λ z. z ++ (header_terminator ++ (inner ++ behind))) none in
+    let size : length content ≡ length inner = sym m.1.3 ∙ sym (ap (decimal_value_of_digits 0) digits) ∙ k.1.3 in
+    let h = halves content inner after behind size (append_cancel_left header_terminator (content ++ after) (inner ++ behind) rest) in
     let same : header_part m.0 ++ content ≡ header_part k.0 ++ inner = ap (λ z. header_part z ++ content) (sym digits) ∙ ap (λ z. header_part k.0 ++ z) h.0 in
     (h.0, m.2 ∙ same ∙ sym k.2, h.1)
 
@@ -97,7 +97,7 @@ never_begun bytes none b = none b.0 (bytes ++ b.1) b.1 [] b.3 (sym (append-nil (
 -- ---- what is written is a message
 
 abbrev Spells : ℕ → List ℕ → Type 0
-Spells n digits = All IsDigit digits × (decimal_value_from 0 digits ≡ n)
+Spells n digits = All IsDigit digits × (decimal_value_of_digits 0 digits ≡ n)
 
 one_digit : (n : ℕ) → n < 10 → All IsDigit ((48 + n) ∷ [])
 one_digit n small = λ k d lt. at k d lt
@@ -112,8 +112,8 @@ first n small = (one_digit n small, omega arith)
 further : (n : ℕ) (digits : List ℕ) → 10 ≤ n → Spells (n / 10) digits → Spells n (digits ++ ((48 + n % 10) ∷ []))
 further n digits long h =
     let low : n % 10 < 10 = omega arith in
-    let step : decimal_value_from 0 (digits ++ ((48 + n % 10) ∷ [])) ≡ 10 * decimal_value_from 0 digits + (48 + n % 10 - 48) = value_more 0 digits ((48 + n % 10) ∷ []) in
-    let tens : decimal_value_from 0 digits ≡ n / 10 = h.1 in
+    let step : decimal_value_of_digits 0 (digits ++ ((48 + n % 10) ∷ [])) ≡ 10 * decimal_value_of_digits 0 digits + (48 + n % 10 - 48) = value_more 0 digits ((48 + n % 10) ∷ []) in
+    let tens : decimal_value_of_digits 0 digits ≡ n / 10 = h.1 in
     (All-append IsDigit digits ((48 + n % 10) ∷ []) h.0 (one_digit (n % 10) low), omega arith)
 
 spelled : (n : ℕ) → n < 2 ^ 64 → Spells n (decimal n)

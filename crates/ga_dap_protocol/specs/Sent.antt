@@ -6,16 +6,16 @@ use Rattle.serde_json.specs.Written.{has_float, compact_text}
 use Rattle.ga_dap_protocol.specs.Framing.{framed_message}
 
 -- messages that are to be written: the bytes, and the number of the last message
-pub record SentMessages : Type 0 where
+pub record OutboxContent : Type 0 where
   pub bytes : List ℕ
   pub seq : ℕ
 
 -- the number of the next message
-abbrev pub next_seq : ℕ → ℕ
-next_seq seq = (seq + 1) % 2 ^ 64
+abbrev pub next_message_number : ℕ → ℕ
+next_message_number seq = (seq + 1) % 2 ^ 64
 
 -- a message is added: its text is that of the value, without a space where it has no float, and is read back as the value
-pub record AddsMessage (old : SentMessages) (seq : ℕ) (message : Data) (new : SentMessages) : Type 0 where
+pub record AddsMessage (old : OutboxContent) (seq : ℕ) (message : Data) (new : OutboxContent) : Type 0 where
   pub text : List ℕ
   pub bytes : new.bytes ≡ old.bytes ++ framed_message text
   pub compact : has_float message ≡ false → text ≡ compact_text message

@@ -7,7 +7,7 @@ use thiserror::Error;
 pub enum FrameError {
     /// The header does not begin with the field `Content-Length`, a colon and a blank.
     #[error("the header does not begin with `Content-Length: `")]
-    Field,
+    WrongHeaderField,
     /// No digit follows the field's name.
     #[error("`Content-Length` is no number")]
     NoDigit,
@@ -16,11 +16,11 @@ pub enum FrameError {
     TooLong,
     /// The length has more than seven digits.
     #[error("`Content-Length` has more than seven digits")]
-    ManyDigits,
+    TooManyDigits,
     /// The digits are not followed by the end of the header.
     #[error("the header does not end behind `Content-Length`")]
-    HeaderEnd,
+    MissingHeaderEnd,
     /// The input ended within a message.
     #[error("the input ends within a message")]
-    Cut,
+    CutShort,
 }

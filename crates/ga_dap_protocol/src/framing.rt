@@ -2,7 +2,7 @@
 
 ghost use Rattle.std.specs.Prelude.{◌≡◌, ◌≢◌, ◌≤◌, ◌<◌, ◌+◌, ◌++◌, ◌↔◌, [], length, take, drop, min, slice_index, IsTrue, IfSome, IfNone, OnOk, OnErr};
 ghost use Rattle.std.specs.List.{All};
-ghost use Rattle.ga_dap_protocol.specs.Framing.{IsEitherPrefix, IsDigit, IsFramePrefix, HasHeaderDigits, content_limit, content_length_digit_limit, content_length_field, framed_message, decimal_value_from};
+ghost use Rattle.ga_dap_protocol.specs.Framing.{IsOnePrefixOfOther, IsDigit, IsFramePrefix, HasHeaderDigits, content_limit, content_length_digit_limit, content_length_field, framed_message, decimal_value_of_digits};
 
 use crate::broken::FrameError;
 use std::alloc::{AllocError, Global};
@@ -25,14 +25,14 @@ pub enum FramePrefix {
     /// A whole message, up to `end`, with its content part from `start` on.
     Message { start: usize, end: usize },
     /// The beginning of a message.
-    Part,
+    PartialMessage,
     /// No message, whatever comes.
-    Wrong(FrameError),
+    NoMessage(FrameError),
 }
 
 /// Whether one of two texts is the beginning of the other.
 fn agree(bytes: &[u8], text: &[u8]) -> bool
-    ensures { IsTrue result ↔ IsEitherPrefix bytes.now text.now }
+    ensures { IsTrue result ↔ IsOnePrefixOfOther bytes.now text.now }
 {
     let count = bytes.len().min(text.len());
     bytes[..count] == text[..count]
@@ -58,9 +58,9 @@ fn digits_in(bytes: &[u8]) -> usize
 /// The number of some digits, if a content part may have this length.
 fn length_of(digits: &[u8]) -> Option<usize>
     requires { All IsDigit digits.now }
-    ensures value { IfSome result (λ n. n ≡ decimal_value_from 0 digits.now) }
+    ensures value { IfSome result (λ n. n ≡ decimal_value_of_digits 0 digits.now) }
     ensures within { IfSome result (λ n. n ≤ content_limit) }
-    ensures past { IfNone result (content_limit < decimal_value_from 0 digits.now) }
+    ensures past { IfNone result (content_limit < decimal_value_of_digits 0 digits.now) }
 {
     let mut number = 0usize;
     for byte in digits {
@@ -77,10 +77,10 @@ pub fn parse_frame_prefix(bytes: &[u8]) -> FramePrefix
     ensures { IsFramePrefix bytes.now result }
 {
     if !agree(bytes, FIELD) {
-        return FramePrefix::Wrong(FrameError::Field);
+        return FramePrefix::NoMessage(FrameError::WrongHeaderField);
     }
     if bytes.len() < FIELD.len() {
-        return FramePrefix::Part;
+        return FramePrefix::PartialMessage;
     }
     front_behind(bytes)
 }
@@ -106,19 +106,19 @@ fn front_behind(bytes: &[u8]) -> FramePrefix
 {
     let (digits, rest) = value_behind(bytes);
     let Some(number) = length_of(digits) else {
-        return FramePrefix::Wrong(FrameError::TooLong);
+        return FramePrefix::NoMessage(FrameError::TooLong);
     };
     if digits.len() > DIGIT_LIMIT {
-        return FramePrefix::Wrong(FrameError::ManyDigits);
+        return FramePrefix::NoMessage(FrameError::TooManyDigits);
     }
     if digits.is_empty() {
         return without_digit(rest);
     }
     if !agree(rest, HEADER_END) {
-        return FramePrefix::Wrong(FrameError::HeaderEnd);
+        return FramePrefix::NoMessage(FrameError::MissingHeaderEnd);
     }
     if rest.len() < HEADER_END.len() + number {
-        return FramePrefix::Part;
+        return FramePrefix::PartialMessage;
     }
     let start = FIELD.len() + digits.len() + HEADER_END.len();
     FramePrefix::Message {
@@ -133,9 +133,9 @@ fn without_digit(rest: &[u8]) -> FramePrefix
     ensures { IsFramePrefix (content_length_field ++ rest.now) result }
 {
     if rest.is_empty() {
-        FramePrefix::Part
+        FramePrefix::PartialMessage
     } else {
-        FramePrefix::Wrong(FrameError::NoDigit)
+        FramePrefix::NoMessage(FrameError::NoDigit)
     }
 }
 

@@ -17,7 +17,7 @@ pub enum NextMessage {
     /// The input ended between messages.
     End,
     /// No further message, and why.
-    Wrong(FrameError),
+    NoMessage(FrameError),
     /// A read failed.
     Failed,
 }
@@ -67,8 +67,8 @@ impl Inbox {
     {
         match parse_frame_prefix(self.bytes.as_slice()) {
             FramePrefix::Message { .. } => true,
-            FramePrefix::Part => false,
-            FramePrefix::Wrong(_) => true,
+            FramePrefix::PartialMessage => false,
+            FramePrefix::NoMessage(_) => true,
         }
     }
 
@@ -115,7 +115,7 @@ impl Inbox {
         if self.bytes.is_empty() {
             NextMessage::End
         } else {
-            NextMessage::Wrong(FrameError::Cut)
+            NextMessage::NoMessage(FrameError::CutShort)
         }
     }
 
@@ -136,8 +136,8 @@ impl Inbox {
                     let content = self.take(start, end)?;
                     return Ok(NextMessage::Message(content));
                 }
-                FramePrefix::Wrong(why) => return Ok(NextMessage::Wrong(why)),
-                FramePrefix::Part => match self.fill(reader)? {
+                FramePrefix::NoMessage(why) => return Ok(NextMessage::NoMessage(why)),
+                FramePrefix::PartialMessage => match self.fill(reader)? {
                     Fill::More => {}
                     Fill::Failed => return Ok(NextMessage::Failed),
                     Fill::End => return Ok(self.ended()),

@@ -12,4 +12,4 @@ pub use broken::FrameError;
 pub use framing::{CONTENT_LIMIT, FramePrefix, parse_frame_prefix, push_frame};
 pub use inbox::{Inbox, NextMessage};
 pub use outbox::Outbox;
-pub use request::{ClientRequest, RequestError, member_number, member_text, read_request};
+pub use request::{ClientRequest, RequestError, member_as_number, member_as_text, read_request};

@@ -2,7 +2,7 @@
 
 ghost use Rattle.std.specs.Prelude.{◌≡◌, string_bytes, IfOk};
 ghost use Rattle.serde_json.specs.View.{view};
-ghost use Rattle.ga_dap_protocol.specs.Messages.{response, bare_response, error_response, event as event_with, bare_event};
+ghost use Rattle.ga_dap_protocol.specs.Messages.{response_message, bare_response, error_response, dap_event_message as event_with, bare_event};
 
 use crate::framing::push_frame;
 use crate::request::ClientRequest;
@@ -19,9 +19,9 @@ pub struct Outbox {
 }
 
 impl Model for Outbox {
-    ghost use Rattle.ga_dap_protocol.specs.Sent.{SentMessages};
+    ghost use Rattle.ga_dap_protocol.specs.Sent.{OutboxContent};
 
-    ghost Value = { SentMessages };
+    ghost Value = { OutboxContent };
 
     ghost view = { λ o. record { bytes = o.bytes.items; seq = o.seq } };
 }
@@ -29,8 +29,8 @@ impl Model for Outbox {
 impl Outbox {
     ghost use Rattle.std.specs.Prelude.{◌≡◌, [], string_bytes, OnOk, OnErr};
     ghost use Rattle.serde_json.specs.View.{view};
-    ghost use Rattle.ga_dap_protocol.specs.Messages.{response, bare_response, error_response, event as event_with, bare_event};
-    ghost use Rattle.ga_dap_protocol.specs.Sent.{next_seq, AddsMessage};
+    ghost use Rattle.ga_dap_protocol.specs.Messages.{response_message, bare_response, error_response, dap_event_message as event_with, bare_event};
+    ghost use Rattle.ga_dap_protocol.specs.Sent.{next_message_number, AddsMessage};
 
     /// An outbox with nothing to be written.
     pub fn new(alloc: Global) -> Self
@@ -73,8 +73,8 @@ impl Outbox {
     }
 
     /// The number of the next message.
-    fn next_seq(&self) -> u64
-        ensures { result ≡ next_seq self.now.seq }
+    fn next_message_number(&self) -> u64
+        ensures { result ≡ next_message_number self.now.seq }
     {
         self.seq.wrapping_add(1)
     }
@@ -95,11 +95,11 @@ impl Outbox {
     /// # Errors
     /// An allocation failed; nothing is added.
     pub fn respond(&mut self, request: &ClientRequest, body: Value) -> Result<(), AllocError>
-        ensures sent { OnOk result (AddsMessage self.old (next_seq self.old.seq)
-            (response (next_seq self.old.seq) request.now.seq (string_bytes request.now.command) (view body)) self.new) }
+        ensures sent { OnOk result (AddsMessage self.old (next_message_number self.old.seq)
+            (response_message (next_message_number self.old.seq) request.now.seq (string_bytes request.now.command) (view body)) self.new) }
         ensures err { OnErr result (self.new ≡ self.old) }
     {
-        let seq = self.next_seq();
+        let seq = self.next_message_number();
         let message = response_of(self.alloc, seq, request, body)?;
         self.push(seq, message)
     }
@@ -109,11 +109,11 @@ impl Outbox {
     /// # Errors
     /// An allocation failed; nothing is added.
     pub fn acknowledge(&mut self, request: &ClientRequest) -> Result<(), AllocError>
-        ensures sent { OnOk result (AddsMessage self.old (next_seq self.old.seq)
-            (bare_response (next_seq self.old.seq) request.now.seq (string_bytes request.now.command)) self.new) }
+        ensures sent { OnOk result (AddsMessage self.old (next_message_number self.old.seq)
+            (bare_response (next_message_number self.old.seq) request.now.seq (string_bytes request.now.command)) self.new) }
         ensures err { OnErr result (self.new ≡ self.old) }
     {
-        let seq = self.next_seq();
+        let seq = self.next_message_number();
         let message = bare_response_of(self.alloc, seq, request)?;
         self.push(seq, message)
     }
@@ -123,11 +123,11 @@ impl Outbox {
     /// # Errors
     /// An allocation failed; nothing is added.
     pub fn refuse(&mut self, request: &ClientRequest, why: &str) -> Result<(), AllocError>
-        ensures sent { OnOk result (AddsMessage self.old (next_seq self.old.seq)
-            (error_response (next_seq self.old.seq) request.now.seq (string_bytes request.now.command) why.now) self.new) }
+        ensures sent { OnOk result (AddsMessage self.old (next_message_number self.old.seq)
+            (error_response (next_message_number self.old.seq) request.now.seq (string_bytes request.now.command) why.now) self.new) }
         ensures err { OnErr result (self.new ≡ self.old) }
     {
-        let seq = self.next_seq();
+        let seq = self.next_message_number();
         let message = error_response_of(self.alloc, seq, request, why)?;
         self.push(seq, message)
     }
@@ -137,11 +137,11 @@ impl Outbox {
     /// # Errors
     /// An allocation failed; nothing is added.
     pub fn add_event(&mut self, event: &str, body: Value) -> Result<(), AllocError>
-        ensures sent { OnOk result (AddsMessage self.old (next_seq self.old.seq)
-            (event_with (next_seq self.old.seq) event.now (view body)) self.new) }
+        ensures sent { OnOk result (AddsMessage self.old (next_message_number self.old.seq)
+            (event_with (next_message_number self.old.seq) event.now (view body)) self.new) }
         ensures err { OnErr result (self.new ≡ self.old) }
     {
-        let seq = self.next_seq();
+        let seq = self.next_message_number();
         let message = event_of(self.alloc, seq, event, body)?;
         self.push(seq, message)
     }
@@ -151,24 +151,24 @@ impl Outbox {
     /// # Errors
     /// An allocation failed; nothing is added.
     pub fn add_bare_event(&mut self, event: &str) -> Result<(), AllocError>
-        ensures sent { OnOk result (AddsMessage self.old (next_seq self.old.seq)
-            (bare_event (next_seq self.old.seq) event.now) self.new) }
+        ensures sent { OnOk result (AddsMessage self.old (next_message_number self.old.seq)
+            (bare_event (next_message_number self.old.seq) event.now) self.new) }
         ensures err { OnErr result (self.new ≡ self.old) }
     {
-        let seq = self.next_seq();
+        let seq = self.next_message_number();
         let message = bare_event_of(self.alloc, seq, event)?;
         self.push(seq, message)
     }
 }
 
-#[tactic(auto, unfolding(crate::specs::Messages::response))]
+#[tactic(auto, unfolding(crate::specs::Messages::response_message))]
 fn response_of(
     alloc: Global,
     seq: u64,
     request: &ClientRequest,
     body: Value,
 ) -> Result<Value, AllocError>
-    ensures { IfOk result (λ v. view v ≡ response seq request.now.seq (string_bytes request.now.command) (view body)) }
+    ensures { IfOk result (λ v. view v ≡ response_message seq request.now.seq (string_bytes request.now.command) (view body)) }
 {
     json!(in alloc; {
         "seq": seq,
@@ -213,7 +213,7 @@ fn error_response_of(
     })
 }
 
-#[tactic(auto, unfolding(crate::specs::Messages::event))]
+#[tactic(auto, unfolding(crate::specs::Messages::dap_event_message))]
 fn event_of(alloc: Global, seq: u64, event: &str, body: Value) -> Result<Value, AllocError>
     ensures { IfOk result (λ v. view v ≡ event_with seq event.now (view body)) }
 {

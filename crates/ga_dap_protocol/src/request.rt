@@ -4,7 +4,7 @@ ghost use Rattle.std.specs.Prelude.{◌≡◌, ◌≢◌, codes, string_bytes, S
 ghost use Rattle.serde_json.specs.Data.{Data};
 ghost use Rattle.serde_json.specs.Read.{read};
 ghost use Rattle.serde_json.specs.View.{view};
-ghost use Rattle.ga_dap_protocol.specs.Messages.{member_text, member_number, IsRequest, IsNoRequest, HoldsNoRequest};
+ghost use Rattle.ga_dap_protocol.specs.Messages.{member_as_text, member_as_number, IsRequest, IsNoRequest, HoldsNoRequest};
 
 use serde_json::Value;
 use std::alloc::{AllocError, Global};
@@ -32,13 +32,13 @@ pub enum RequestError {
     Json,
     /// The type of the value is not `request`.
     #[error("a message is no request")]
-    Kind,
+    WrongType,
     /// The request has no number.
     #[error("a request has no `seq`")]
     Seq,
     /// The request has no command.
     #[error("a request has no `command`")]
-    Command,
+    MissingCommand,
 }
 
 impl From<AllocError> for RequestError {
@@ -78,17 +78,17 @@ fn request_of(alloc: Global, value: &Value) -> Result<ClientRequest, RequestErro
     ensures ok { IfOk result (λ r. IsRequest (view value.now) r.seq (string_bytes r.command) (view r.arguments)) }
     ensures err { IfErr result (λ why. IsNoRequest (view value.now) why) }
 {
-    let Some(kind) = member_text(value, "type") else {
-        return Err(RequestError::Kind);
+    let Some(kind) = member_as_text(value, "type") else {
+        return Err(RequestError::WrongType);
     };
     if kind != "request" {
-        return Err(RequestError::Kind);
+        return Err(RequestError::WrongType);
     }
-    let Some(seq) = member_number(value, "seq") else {
+    let Some(seq) = member_as_number(value, "seq") else {
         return Err(RequestError::Seq);
     };
-    let Some(command) = member_text(value, "command") else {
-        return Err(RequestError::Command);
+    let Some(command) = member_as_text(value, "command") else {
+        return Err(RequestError::MissingCommand);
     };
     let command = String::from_str(alloc, command)?;
     let arguments = match value.get("arguments") {
@@ -103,15 +103,15 @@ fn request_of(alloc: Global, value: &Value) -> Result<ClientRequest, RequestErro
 }
 
 /// The text of a member. Takes no memory.
-pub fn member_text<'v>(value: &'v Value, name: &str) -> Option<&'v str>
-    ensures { option_map (λ t. t.now) result ≡ member_text name.now (view value.now) }
+pub fn member_as_text<'v>(value: &'v Value, name: &str) -> Option<&'v str>
+    ensures { option_map (λ t. t.now) result ≡ member_as_text name.now (view value.now) }
 {
     value.get(name).and_then(Value::as_str)
 }
 
 /// The number of a member, where it is a whole number from 0 on. Takes no memory.
-pub fn member_number(value: &Value, name: &str) -> Option<u64>
-    ensures { result ≡ member_number name.now (view value.now) }
+pub fn member_as_number(value: &Value, name: &str) -> Option<u64>
+    ensures { result ≡ member_as_number name.now (view value.now) }
 {
     value.get(name).and_then(Value::as_u64)
 }

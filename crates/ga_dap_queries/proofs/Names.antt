@@ -2,9 +2,9 @@
 use Rattle.std.proofs.Common.{◌≡◌, ◌<◌, ℕ, refl, arith}
 use Rattle.ga_dap_queries.specs.declared.request_name.RequestName.{RequestName}
 use Rattle.ga_dap_queries.specs.declared.request_name.RequestName.TheVariants as the
-use Rattle.ga_dap_queries.specs.inner.{command_at}
+use Rattle.ga_dap_queries.specs.inner.{request_name_at}
 
-pub at_place : (command : RequestName) → (k : ℕ) × (k < 25) × (command_at k ≡ command)
+pub at_place : (command : RequestName) → (k : ℕ) × (k < 25) × (request_name_at k ≡ command)
 at_place the.Initialize = (0, omega arith, refl)
 at_place the.Launch = (1, omega arith, refl)
 at_place the.SetBreakpoints = (2, omega arith, refl)

@@ -11,8 +11,8 @@ use Rattle.serde_json.specs.View.{view}
 use Rattle.ga_text.specs.Lines.{Text}
 use Rattle.ga_grid.specs.declared.node_id.NodeId.{NodeId}
 use Rattle.ga_dap_views.specs.Numbers.{chip_address}
-use Rattle.ga_dap_views.specs.Disassembly.{disassemble_body}
-use Rattle.ga_dap_protocol.specs.Messages.{member_text, member_number}
+use Rattle.ga_dap_views.specs.Disassembly.{disassemble_response_body}
+use Rattle.ga_dap_protocol.specs.Messages.{member_as_text, member_as_number}
 use Rattle.ga_dap_protocol.specs.declared.request.ClientRequest.{ClientRequest}
 use Rattle.ga_dap_queries.specs.Sending.{Message, success_response, refused_response}
 
@@ -27,20 +27,20 @@ abbrev pub program_debug_info : Debuggee → DebugInfo
 program_debug_info p = debug_info_or_empty p.source p.empty_debug_info
 
 -- the file of a program
-abbrev pub IsSourceFileOf : Debuggee → SourceFile → Type 0
-IsSourceFileOf p file = (file.name.now ≡ string_bytes p.name) × (file.path.now ≡ string_bytes p.path)
+abbrev pub IsProgramSourceFile : Debuggee → SourceFile → Type 0
+IsProgramSourceFile p file = (file.name.now ≡ string_bytes p.name) × (file.path.now ≡ string_bytes p.path)
 
 -- a text that is a number in hexadecimal digits, after 0x
 abbrev pub SpellsHexadecimal : Text → ℕ → Type 0
 SpellsHexadecimal digits number = IsNumeral 16 (without_leading_plus digits) × (digits_value 16 (without_leading_plus digits) ≡ number)
 
-abbrev pub SpellsReference : Text → ℕ → Type 0
-SpellsReference text address = (digits : Text) × (text ≡ codes "0x" ++ digits) × SpellsHexadecimal digits address
+abbrev pub SpellsMemoryReference : Text → ℕ → Type 0
+SpellsMemoryReference text address = (digits : Text) × (text ≡ codes "0x" ++ digits) × SpellsHexadecimal digits address
 
 -- the node and the cell of a reference to memory, or that there are none
 abbrev pub IsMemoryReference : Text → Option (NodeId × ℕ) → Type 0
-IsMemoryReference text (Some at) = SpellsReference text (chip_address at.0.number at.1)
-IsMemoryReference text None = (n cell : ℕ) → n < 144 → cell < 256 → SpellsReference text (chip_address n cell) → ⊥
+IsMemoryReference text (Some at) = SpellsMemoryReference text (chip_address at.0.number at.1)
+IsMemoryReference text None = (n cell : ℕ) → n < 144 → cell < 256 → SpellsMemoryReference text (chip_address n cell) → ⊥
 
 -- the number of a member, which may be less than 0; 0 where it has none
 abbrev pub signed_member_or_zero : Text → Data → ℤ
@@ -54,25 +54,25 @@ abbrev pub first_instruction_address : Data → ℕ → ℕ
 first_instruction_address d cell = (cell + (wrapped_address_offset (signed_member_or_zero (codes "offset") d) + wrapped_address_offset (signed_member_or_zero (codes "instructionOffset") d))) % 4096
 
 -- exactly as many instructions are sent as are requested; more than 4096 are refused
-abbrev pub instruction_count_in_limit : ℕ → Option ℕ
-instruction_count_in_limit count = if nat_lt 4096 count then None else Some count
+abbrev pub instruction_count_if_in_limit : ℕ → Option ℕ
+instruction_count_if_in_limit count = if nat_lt 4096 count then None else Some count
 
 abbrev pub DisassemblesWithinLimit : Debuggee → ClientRequest → NodeId × ℕ → Option ℕ → Message → Type 0
 DisassemblesWithinLimit p request at None message = message ≡ refused_response request (codes "disassemble: 4096 instructions at most")
-DisassemblesWithinLimit p request at (Some count) message = (file : SourceFile) × IsSourceFileOf p file
-    × (message ≡ success_response request (disassemble_body file (program_debug_info p) p.lab at.0 (first_instruction_address (view request.arguments) at.1) count))
+DisassemblesWithinLimit p request at (Some count) message = (file : SourceFile) × IsProgramSourceFile p file
+    × (message ≡ success_response request (disassemble_response_body file (program_debug_info p) p.lab at.0 (first_instruction_address (view request.arguments) at.1) count))
 
 abbrev pub DisassemblesRequestedCount : Debuggee → ClientRequest → NodeId × ℕ → Option ℕ → Message → Type 0
 DisassemblesRequestedCount p request at None message = message ≡ refused_response request (codes "disassemble: there is no instructionCount")
-DisassemblesRequestedCount p request at (Some count) message = DisassemblesWithinLimit p request at (instruction_count_in_limit count) message
+DisassemblesRequestedCount p request at (Some count) message = DisassemblesWithinLimit p request at (instruction_count_if_in_limit count) message
 
 abbrev pub DisassemblesMemory : Debuggee → ClientRequest → Option (NodeId × ℕ) → Message → Type 0
 DisassemblesMemory p request None message = message ≡ refused_response request (codes "disassemble: no such memory")
-DisassemblesMemory p request (Some at) message = DisassemblesRequestedCount p request at (member_number (codes "instructionCount") (view request.arguments)) message
+DisassemblesMemory p request (Some at) message = DisassemblesRequestedCount p request at (member_as_number (codes "instructionCount") (view request.arguments)) message
 
 abbrev pub DisassemblesReference : Debuggee → ClientRequest → Option Text → Message → Type 0
 DisassemblesReference p request None message = message ≡ refused_response request (codes "disassemble: there is no memoryReference")
 DisassemblesReference p request (Some text) message = (at : Option (NodeId × ℕ)) × IsMemoryReference text at × DisassemblesMemory p request at message
 
 abbrev pub AnswersDisassemble : Debuggee → ClientRequest → Message → Type 0
-AnswersDisassemble p request message = DisassemblesReference p request (member_text (codes "memoryReference") (view request.arguments)) message
+AnswersDisassemble p request message = DisassemblesReference p request (member_as_text (codes "memoryReference") (view request.arguments)) message

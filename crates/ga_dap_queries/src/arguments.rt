@@ -4,33 +4,33 @@ ghost use Rattle.std.specs.Prelude.{◌≡◌, ◌≢◌, ◌<◌, ℕ, map, IfS
 ghost use Rattle.serde_json.specs.View.{view};
 ghost use Rattle.serde_json.specs.Find.{as_array};
 ghost use Rattle.ga_dap_views.specs.Numbers.{frame_id};
-ghost use Rattle.ga_dap_queries.specs.Arguments.{IsThreadArgument, IsFrameArgument, IsScopeArgument, member_flag, member_values, items_or_empty, number_or_default};
+ghost use Rattle.ga_dap_queries.specs.Arguments.{IsThreadArgument, IsFrameArgument, IsVariablesReferenceArgument, parse_boolean_member, member_list_values, items_or_empty, number_member_or_default};
 
-use ga_dap_protocol::member_number;
-use ga_dap_views::{Scope, node_of_frame, node_of_thread, resolve_reference};
+use ga_dap_protocol::member_as_number;
+use ga_dap_views::{Scope, node_of_frame, node_of_thread, resolve_variables_reference};
 use ga_grid::NodeId;
 use serde_json::Value;
 
 /// The flag of a member.
-pub fn member_flag(value: &Value, name: &str) -> Option<bool>
-    ensures { result ≡ member_flag name.now (view value.now) }
+pub fn parse_boolean_member(value: &Value, name: &str) -> Option<bool>
+    ensures { result ≡ parse_boolean_member name.now (view value.now) }
 {
     value.get(name).and_then(Value::as_bool)
 }
 
 /// The values of a member that is a list; none where it is no list.
-pub fn member_values<'v>(value: &'v Value, name: &str) -> &'v [Value]
-    ensures { map view result.now ≡ member_values name.now (view value.now) }
+pub fn member_list_values<'v>(value: &'v Value, name: &str) -> &'v [Value]
+    ensures { map view result.now ≡ member_list_values name.now (view value.now) }
 {
     match value.get(name) {
-        Some(member) => item_values(member),
+        Some(member) => values_of_items(member),
         None => &[],
     }
 }
 
 /// The values of a list; none where it is no list.
 #[tactic(auto, using(crate::proofs::Listed::listed))]
-fn item_values(value: &Value) -> &[Value]
+fn values_of_items(value: &Value) -> &[Value]
     ensures { map view result.now ≡ items_or_empty (as_array (view value.now)) }
 {
     match value.as_array() {
@@ -40,17 +40,17 @@ fn item_values(value: &Value) -> &[Value]
 }
 
 /// The number of a member, and another where it has none.
-pub fn number_or_default(value: &Value, name: &str, other: u64) -> u64
-    ensures { result ≡ number_or_default name.now other (view value.now) }
+pub fn number_member_or_default(value: &Value, name: &str, other: u64) -> u64
+    ensures { result ≡ number_member_or_default name.now other (view value.now) }
 {
-    member_number(value, name).unwrap_or(other)
+    member_as_number(value, name).unwrap_or(other)
 }
 
 /// The node of the requested thread.
 pub fn thread_argument(arguments: &Value) -> Option<NodeId>
     ensures { IsThreadArgument (view arguments.now) result }
 {
-    match member_number(arguments, "threadId") {
+    match member_as_number(arguments, "threadId") {
         Some(thread) => node_of_thread(thread),
         None => None,
     }
@@ -60,7 +60,7 @@ pub fn thread_argument(arguments: &Value) -> Option<NodeId>
 pub fn frame_argument(arguments: &Value) -> Option<NodeId>
     ensures { IsFrameArgument (view arguments.now) result }
 {
-    match member_number(arguments, "frameId") {
+    match member_as_number(arguments, "frameId") {
         Some(frame) => node_framed(frame),
         None => None,
     }
@@ -78,11 +78,11 @@ fn node_framed(frame: u64) -> Option<NodeId>
 }
 
 /// The node and the scope of the requested variables.
-pub fn scope_argument(arguments: &Value) -> Option<(NodeId, Scope)>
-    ensures { IsScopeArgument (view arguments.now) result }
+pub fn variables_reference_argument(arguments: &Value) -> Option<(NodeId, Scope)>
+    ensures { IsVariablesReferenceArgument (view arguments.now) result }
 {
-    match member_number(arguments, "variablesReference") {
-        Some(reference) => resolve_reference(reference),
+    match member_as_number(arguments, "variablesReference") {
+        Some(reference) => resolve_variables_reference(reference),
         None => None,
     }
 }

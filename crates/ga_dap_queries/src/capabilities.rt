@@ -3,10 +3,10 @@
 ghost use Rattle.std.specs.Prelude.{◌≡◌, option_map, IfOk, OnOk, OnErr};
 ghost use Rattle.serde_json.specs.View.{view};
 ghost use Rattle.ga_dap_queries.specs.Sending.{SendsMessage, Message, success_response};
-ghost use Rattle.ga_dap_queries.specs.Capabilities.{AnswersInitialize, capabilities, exception_filter_object, exception_breakpoint_filters, counts_from_one, names_files_by_path, unsupported_client_option};
+ghost use Rattle.ga_dap_queries.specs.Capabilities.{AnswersInitialize, debugger_capabilities, exception_filter_object, exception_breakpoint_filters, counts_lines_from_one, names_files_by_path, unsupported_client_option};
 
-use crate::arguments::member_flag;
-use ga_dap_protocol::{ClientRequest, Outbox, member_text};
+use crate::arguments::parse_boolean_member;
+use ga_dap_protocol::{ClientRequest, Outbox, member_as_text};
 use serde_json::{Value, json};
 use std::alloc::{AllocError, Global};
 
@@ -27,9 +27,9 @@ fn exception_breakpoint_filters(alloc: Global) -> Result<Value, AllocError>
 }
 
 /// What this debugger can do (Debug Adapter Protocol, "Capabilities"), beside its filters.
-#[tactic(auto, unfolding(crate::specs::Capabilities::capabilities))]
+#[tactic(auto, unfolding(crate::specs::Capabilities::debugger_capabilities))]
 fn capabilities(alloc: Global, exception_breakpoint_filters: Value) -> Result<Value, AllocError>
-    ensures { IfOk result (λ v. view v ≡ capabilities (view exception_breakpoint_filters)) }
+    ensures { IfOk result (λ v. view v ≡ debugger_capabilities (view exception_breakpoint_filters)) }
 {
     json!(in alloc; {
         "exceptionBreakpointFilters": exception_breakpoint_filters,
@@ -49,17 +49,17 @@ fn capabilities(alloc: Global, exception_breakpoint_filters: Value) -> Result<Va
 }
 
 /// Whether lines or columns are counted from 1 on, as the client would have it.
-fn counts_from_one(arguments: &Value, name: &str) -> bool
-    ensures { result ≡ counts_from_one name.now (view arguments.now) }
+fn counts_lines_from_one(arguments: &Value, name: &str) -> bool
+    ensures { result ≡ counts_lines_from_one name.now (view arguments.now) }
 {
-    member_flag(arguments, name).unwrap_or(true)
+    parse_boolean_member(arguments, name).unwrap_or(true)
 }
 
 /// Whether files are named by their paths.
 fn names_files_by_path(arguments: &Value) -> bool
     ensures { result ≡ names_files_by_path (view arguments.now) }
 {
-    match member_text(arguments, "pathFormat") {
+    match member_as_text(arguments, "pathFormat") {
         Some(format) => format == "path",
         None => true,
     }
@@ -69,10 +69,10 @@ fn names_files_by_path(arguments: &Value) -> bool
 fn unsupported_client_option(arguments: &Value) -> Option<&'static str>
     ensures { option_map (λ why. why.now) result ≡ unsupported_client_option (view arguments.now) }
 {
-    if !counts_from_one(arguments, "linesStartAt1") {
+    if !counts_lines_from_one(arguments, "linesStartAt1") {
         return Some("initialize: lines are counted from 1 on");
     }
-    if !counts_from_one(arguments, "columnsStartAt1") {
+    if !counts_lines_from_one(arguments, "columnsStartAt1") {
         return Some("initialize: columns are counted from 1 on");
     }
     if !names_files_by_path(arguments) {
@@ -87,7 +87,7 @@ fn tell_capabilities(
     request: &ClientRequest,
     out: &mut Outbox,
 ) -> Result<(), AllocError>
-    ensures sent { OnOk result (SendsMessage out.old (success_response request.now (capabilities exception_breakpoint_filters)) out.new) }
+    ensures sent { OnOk result (SendsMessage out.old (success_response request.now (debugger_capabilities exception_breakpoint_filters)) out.new) }
     ensures err { OnErr result (out.new ≡ out.old) }
 {
     let exception_breakpoint_filters = exception_breakpoint_filters(alloc)?;
@@ -96,7 +96,7 @@ fn tell_capabilities(
 }
 
 /// `initialize`.
-pub fn initialize(
+pub fn respond_initialize(
     alloc: Global,
     request: &ClientRequest,
     out: &mut Outbox,

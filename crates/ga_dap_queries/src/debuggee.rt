@@ -30,7 +30,7 @@ impl Debuggee {
     ghost use Rattle.ga_dap_queries.specs.Disassembling.{program_debug_info};
 
     /// What the source says of the cells.
-    pub fn notes(&self) -> &DebugInfo
+    pub fn source_debug_info(&self) -> &DebugInfo
         ensures { result.now ≡ program_debug_info self.now }
     {
         match &self.source {

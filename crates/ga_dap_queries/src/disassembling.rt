@@ -3,11 +3,11 @@
 ghost use Rattle.std.specs.Prelude.{◌≡◌, ◌≢◌, ◌<◌, ◌≤◌, ◌^◌, ℕ, Some, IfSome, IfNone, OnOk, OnErr};
 ghost use Rattle.serde_json.specs.View.{view};
 ghost use Rattle.ga_dap_queries.specs.Sending.{SendsMessage, Message};
-ghost use Rattle.ga_dap_queries.specs.Disassembling.{SpellsHexadecimal, SpellsReference, IsMemoryReference, signed_member_or_zero, wrapped_address_offset, first_instruction_address, instruction_count_in_limit, DisassemblesWithinLimit, DisassemblesRequestedCount, DisassemblesMemory, DisassemblesReference, AnswersDisassemble};
+ghost use Rattle.ga_dap_queries.specs.Disassembling.{SpellsHexadecimal, SpellsMemoryReference, IsMemoryReference, signed_member_or_zero, wrapped_address_offset, first_instruction_address, instruction_count_if_in_limit, DisassemblesWithinLimit, DisassemblesRequestedCount, DisassemblesMemory, DisassemblesReference, AnswersDisassemble};
 
 use crate::debuggee::Debuggee;
-use ga_dap_protocol::{ClientRequest, Outbox, member_number, member_text};
-use ga_dap_views::{cell_at_chip_address, disassemble_body};
+use ga_dap_protocol::{ClientRequest, Outbox, member_as_number, member_as_text};
+use ga_dap_views::{cell_at_chip_address, disassemble_response_body};
 use ga_grid::NodeId;
 use serde_json::Value;
 use std::alloc::{AllocError, Global};
@@ -35,8 +35,8 @@ fn hexadecimal(digits: &str) -> Option<u64>
 
 /// The number that a reference to memory spells in hexadecimal digits.
 fn address_asked(reference: &str) -> Option<u64>
-    ensures found { IfSome result (λ address. SpellsReference reference.now address) }
-    ensures none { IfNone result ((address : ℕ) → address < 2 ^ 64 → SpellsReference reference.now address → ⊥) }
+    ensures found { IfSome result (λ address. SpellsMemoryReference reference.now address) }
+    ensures none { IfNone result ((address : ℕ) → address < 2 ^ 64 → SpellsMemoryReference reference.now address → ⊥) }
 {
     match reference.strip_prefix("0x") {
         Some(digits) => hexadecimal(digits),
@@ -82,7 +82,7 @@ pub fn respond_disassemble(
     ensures sent { OnOk result ((message : Message) × AnswersDisassemble program.now request.now message × SendsMessage out.old message out.new) }
     ensures err { OnErr result (out.new ≡ out.old) }
 {
-    match member_text(&request.arguments, "memoryReference") {
+    match member_as_text(&request.arguments, "memoryReference") {
         None => out.refuse(request, "disassemble: there is no memoryReference"),
         Some(reference) => tell_referred(alloc, program, request, reference, out),
     }
@@ -116,15 +116,15 @@ fn tell_instructions_at(
     ensures sent { OnOk result ((message : Message) × DisassemblesMemory program.now request.now (Some at) message × SendsMessage out.old message out.new) }
     ensures err { OnErr result (out.new ≡ out.old) }
 {
-    match member_number(&request.arguments, "instructionCount") {
+    match member_as_number(&request.arguments, "instructionCount") {
         None => out.refuse(request, "disassemble: there is no instructionCount"),
         Some(count) => tell_counted(alloc, program, request, at, count, out),
     }
 }
 
 /// The number of instructions to send, if it is not too large.
-fn instruction_count_in_limit(count: u64) -> Option<u32>
-    ensures value { result ≡ instruction_count_in_limit count }
+fn instruction_count_if_in_limit(count: u64) -> Option<u32>
+    ensures value { result ≡ instruction_count_if_in_limit count }
     ensures most { IfSome result (λ count. count ≤ 4096) }
 {
     if count > MOST_INSTRUCTIONS {
@@ -145,7 +145,7 @@ fn tell_counted(
     ensures sent { OnOk result ((message : Message) × DisassemblesRequestedCount program.now request.now at (Some count) message × SendsMessage out.old message out.new) }
     ensures err { OnErr result (out.new ≡ out.old) }
 {
-    match instruction_count_in_limit(count) {
+    match instruction_count_if_in_limit(count) {
         None => out.refuse(request, "disassemble: 4096 instructions at most"),
         Some(count) => tell_some(alloc, program, request, at, count, out),
     }
@@ -165,7 +165,7 @@ fn tell_some(
     ensures err { OnErr result (out.new ≡ out.old) }
 {
     let first = first_instruction_address(&request.arguments, at.1);
-    let (lab, notes) = (&program.lab, program.notes());
-    let body = disassemble_body(alloc, program.file(), lab, notes, at.0, first, count)?;
+    let (lab, notes) = (&program.lab, program.source_debug_info());
+    let body = disassemble_response_body(alloc, program.file(), lab, notes, at.0, first, count)?;
     out.respond(request, body)
 }

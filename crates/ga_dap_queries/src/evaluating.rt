@@ -3,11 +3,11 @@
 ghost use Rattle.std.specs.Prelude.{◌≡◌, ◌≢◌, ◌<◌, ◌↔◌, ℕ, IsTrue, IfOk, IfSome, IfNone};
 ghost use Rattle.serde_json.specs.View.{view};
 ghost use Rattle.ga_dap_views.specs.declared.scope.Scope.TheVariants.{Registers};
-ghost use Rattle.ga_dap_views.specs.Shown.{IsVariable, variable_at, variable_count, variable_name};
-ghost use Rattle.ga_dap_queries.specs.Evaluating.{cell_in_brackets, DenotesVariable, DenotesNoVariable, evaluate_result_object, evaluate_body};
+ghost use Rattle.ga_dap_views.specs.Shown.{IsNodeVariable, scope_variable_at_index, variable_count, variable_name};
+ghost use Rattle.ga_dap_queries.specs.Evaluating.{cell_variable_in_brackets, DenotesVariable, DenotesNoVariable, evaluate_result_object, evaluate_body};
 
 use ga_dap_views::{
-    Scope, Variable, count_variables, json_value_of_variable, variable_name, variable_of,
+    Scope, Variable, count_variables, find_variable_at_index, json_value_of_variable, variable_name,
 };
 use ga_grid::NodeId;
 use ga_lab::Lab;
@@ -17,7 +17,7 @@ use std::alloc::{AllocError, Global};
 
 /// Whether a variable has this name.
 fn has_name(alloc: Global, one: Variable, name: &str) -> Result<bool, AllocError>
-    requires { IsVariable one }
+    requires { IsNodeVariable one }
     ensures { IfOk result (λ same. IsTrue same ↔ (variable_name one ≡ name.now)) }
 {
     let own = variable_name(alloc, one)?;
@@ -27,12 +27,12 @@ fn has_name(alloc: Global, one: Variable, name: &str) -> Result<bool, AllocError
 /// The register of a name, where there is one.
 fn register_named(alloc: Global, name: &str) -> Result<Option<Variable>, AllocError>
     ensures found { IfOk result (λ found. IfSome found (λ one. variable_name one ≡ name.now)) }
-    ensures valid { IfOk result (λ found. IfSome found IsVariable) }
+    ensures valid { IfOk result (λ found. IfSome found IsNodeVariable) }
     ensures none { IfOk result (λ found. IfNone found
-        ((k : ℕ) → k < variable_count Registers → variable_name (variable_at Registers k) ≢ name.now)) }
+        ((k : ℕ) → k < variable_count Registers → variable_name (scope_variable_at_index Registers k) ≢ name.now)) }
 {
     'registers: for place in 0..count_variables(Scope::Registers) {
-        let one = variable_of(Scope::Registers, place);
+        let one = find_variable_at_index(Scope::Registers, place);
         let same = has_name(alloc, one, name)?;
         if same {
             return Ok(Some(one));
@@ -43,8 +43,8 @@ fn register_named(alloc: Global, name: &str) -> Result<Option<Variable>, AllocEr
 
 /// The cell of two hexadecimal digits in brackets, where there is one.
 fn cell_named(text: &[u8]) -> Option<Variable>
-    ensures value { result ≡ cell_in_brackets text.now }
-    ensures valid { IfSome result IsVariable }
+    ensures value { result ≡ cell_variable_in_brackets text.now }
+    ensures valid { IfSome result IsNodeVariable }
 {
     if text.len() == 4 && text[0] == b'[' && text[3] == b']' {
         let address = parse_hex_byte(&text[1..3])?;
@@ -61,7 +61,7 @@ fn cell_named(text: &[u8]) -> Option<Variable>
 /// Memory was refused.
 pub fn parse_variable(alloc: Global, expression: &str) -> Result<Option<Variable>, AllocError>
     ensures found { IfOk result (λ found. IfSome found (DenotesVariable expression.now)) }
-    ensures valid { IfOk result (λ found. IfSome found IsVariable) }
+    ensures valid { IfOk result (λ found. IfSome found IsNodeVariable) }
     ensures none { IfOk result (λ found. IfNone found (DenotesNoVariable expression.now)) }
 {
     match register_named(alloc, expression)? {
@@ -82,14 +82,14 @@ fn answer(alloc: Global, value: &str) -> Result<Value, AllocError>
 ///
 /// # Errors
 /// Memory was refused.
-pub fn evaluate(
+pub fn make_evaluate_body(
     alloc: Global,
     lab: &Lab,
     stuck: bool,
     node: NodeId,
     variable: Variable,
 ) -> Result<Value, AllocError>
-    requires { IsVariable variable }
+    requires { IsNodeVariable variable }
     ensures { IfOk result (λ v. view v ≡ evaluate_body lab.now stuck node.number variable) }
 {
     let value = json_value_of_variable(alloc, lab, stuck, node, variable)?;

@@ -2,7 +2,7 @@
 
 ghost use Rattle.std.specs.Prelude.{◌≡◌, IfOk};
 ghost use Rattle.serde_json.specs.View.{view};
-ghost use Rattle.ga_dap_queries.specs.Readings.{exception_filter, exception_object, exception_info_body};
+ghost use Rattle.ga_dap_queries.specs.Readings.{exception_filter_of_node, exception_object, exception_info_body};
 
 use ga_dap_views::thread_title;
 use ga_grid::NodeId;
@@ -11,7 +11,7 @@ use serde_json::{Value, json};
 use std::alloc::{AllocError, Global};
 
 fn filter_of(stop: u8, stuck: bool) -> &'static str
-    ensures { result.now ≡ exception_filter stop stuck }
+    ensures { result.now ≡ exception_filter_of_node stop stuck }
 {
     if stop != 0 {
         "stop"
@@ -34,7 +34,7 @@ fn described(alloc: Global, id: &str, description: &str) -> Result<Value, AllocE
 ///
 /// # Errors
 /// Allocation failed.
-pub fn exception_info(
+pub fn make_exception_info_body(
     alloc: Global,
     lab: &Lab,
     stuck: bool,

@@ -28,6 +28,11 @@ fn add_digits(text: &mut String, row: u32, tens: u32, ones: u32) -> Result<(), A
 pub fn push_node_name(text: &mut String, node: NodeId) -> Result<(), AllocError>
     ensures { OnOk result (string_bytes text.new ≡ string_bytes text.old ++ name_of_node node) }
 {
-    let yxx = node.yxx();
-    add_digits(text, yxx / 100, yxx / 10 % 10, yxx % 10)
+    let decimal_name = node.decimal_name();
+    add_digits(
+        text,
+        decimal_name / 100,
+        decimal_name / 10 % 10,
+        decimal_name % 10,
+    )
 }

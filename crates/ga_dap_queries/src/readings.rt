@@ -4,14 +4,18 @@ ghost use Rattle.std.specs.Prelude.{◌≡◌, if◌then◌else◌, codes, optio
 ghost use Rattle.serde_json.specs.View.{view};
 ghost use Rattle.ga_dap_queries.specs.Sending.{SendsMessage, Message};
 ghost use Rattle.ga_dap_views.specs.Variables.{is_memory_scope};
-ghost use Rattle.ga_dap_queries.specs.Readings.{matches_variables_filter, no_variables, filtered_variables, IsVariablesResponse, AnswersThreads, AnswersStackTrace, AnswersScopes, AnswersVariables, AnswersExceptionInfo};
+ghost use Rattle.ga_dap_queries.specs.Readings.{matches_variables_filter, empty_variables_body, filtered_variables_body, IsVariablesResponse, AnswersThreads, AnswersStackTrace, AnswersScopes, AnswersVariables, AnswersExceptionInfo};
 
-use crate::arguments::{frame_argument, number_or_default, scope_argument, thread_argument};
+use crate::arguments::{
+    frame_argument, number_member_or_default, thread_argument, variables_reference_argument,
+};
 use crate::debuggee::Debuggee;
-use crate::exceptions::exception_info;
+use crate::exceptions::make_exception_info_body;
 use crate::stuck::is_deadlocked;
-use ga_dap_protocol::{ClientRequest, Outbox, member_text};
-use ga_dap_views::{Scope, scopes, stack_trace, threads, variables};
+use ga_dap_protocol::{ClientRequest, Outbox, member_as_text};
+use ga_dap_views::{
+    Scope, make_scopes_body, make_threads_body, make_variables_body, stack_trace_body,
+};
 use ga_grid::NodeId;
 use ga_lab::Lab;
 use serde_json::{Value, json};
@@ -28,7 +32,7 @@ pub fn respond_threads(
     ensures sent { OnOk result ((message : Message) × AnswersThreads program.now request.now message × SendsMessage out.old message out.new) }
     ensures err { OnErr result (out.new ≡ out.old) }
 {
-    let body = threads(alloc, &program.lab, program.nodes.as_slice())?;
+    let body = make_threads_body(alloc, &program.lab, program.nodes.as_slice())?;
     out.respond(request, body)
 }
 
@@ -45,10 +49,10 @@ pub fn respond_stack_trace(
     match thread_argument(&request.arguments) {
         None => out.refuse(request, "stackTrace: no such thread"),
         Some(node) => {
-            let start = number_or_default(&request.arguments, "startFrame", 0);
-            let count = number_or_default(&request.arguments, "levels", 0);
-            let (lab, notes) = (&program.lab, program.notes());
-            let body = stack_trace(alloc, program.file(), lab, notes, node, start, count)?;
+            let start = number_member_or_default(&request.arguments, "startFrame", 0);
+            let count = number_member_or_default(&request.arguments, "levels", 0);
+            let (lab, notes) = (&program.lab, program.source_debug_info());
+            let body = stack_trace_body(alloc, program.file(), lab, notes, node, start, count)?;
             out.respond(request, body)
         }
     }
@@ -66,7 +70,7 @@ pub fn respond_scopes(
     match frame_argument(&request.arguments) {
         None => out.refuse(request, "scopes: no such frame"),
         Some(node) => {
-            let body = scopes(alloc, node)?;
+            let body = make_scopes_body(alloc, node)?;
             out.respond(request, body)
         }
     }
@@ -82,7 +86,7 @@ pub fn respond_variables(
     ensures sent { OnOk result ((message : Message) × AnswersVariables program.now request.now message × SendsMessage out.old message out.new) }
     ensures err { OnErr result (out.new ≡ out.old) }
 {
-    match scope_argument(&request.arguments) {
+    match variables_reference_argument(&request.arguments) {
         None => out.refuse(request, "variables: no such reference"),
         Some(at) => tell_variables_at(alloc, program, request, at, out),
     }
@@ -106,21 +110,21 @@ fn left_out(of: Scope) -> &'static str
         Scope::Ram => "named",
         Scope::Rom => "named",
         Scope::Registers => "indexed",
-        Scope::Data => "indexed",
-        Scope::Returns => "indexed",
+        Scope::DataStackScope => "indexed",
+        Scope::ReturnStackScope => "indexed",
         Scope::Links => "indexed",
     }
 }
 
-#[tactic(auto, unfolding(crate::specs::Readings::no_variables))]
-fn no_variables(alloc: Global) -> Result<Value, AllocError>
-    ensures { IfOk result (λ v. view v ≡ no_variables) }
+#[tactic(auto, unfolding(crate::specs::Readings::empty_variables_body))]
+fn empty_variables_body(alloc: Global) -> Result<Value, AllocError>
+    ensures { IfOk result (λ v. view v ≡ empty_variables_body) }
 {
     json!(in alloc; {"variables": []})
 }
 
 /// The variables of a scope that the request selects.
-fn filtered_variables(
+fn filtered_variables_body(
     alloc: Global,
     lab: &Lab,
     asked: bool,
@@ -129,12 +133,12 @@ fn filtered_variables(
     start: u64,
     count: u64,
 ) -> Result<Value, AllocError>
-    ensures { IfOk result (λ v. view v ≡ filtered_variables asked lab.now stuck at.0.number at.1 start count) }
+    ensures { IfOk result (λ v. view v ≡ filtered_variables_body asked lab.now stuck at.0.number at.1 start count) }
 {
     if asked {
-        variables(alloc, lab, stuck, at, start, count)
+        make_variables_body(alloc, lab, stuck, at, start, count)
     } else {
-        no_variables(alloc)
+        empty_variables_body(alloc)
     }
 }
 
@@ -149,11 +153,11 @@ fn tell_variables_at(
     ensures sent { OnOk result ((message : Message) × IsVariablesResponse program.now request.now at message × SendsMessage out.old message out.new) }
     ensures err { OnErr result (out.new ≡ out.old) }
 {
-    let start = number_or_default(&request.arguments, "start", 0);
-    let count = number_or_default(&request.arguments, "count", 0);
+    let start = number_member_or_default(&request.arguments, "start", 0);
+    let count = number_member_or_default(&request.arguments, "count", 0);
     let stuck = is_deadlocked(program.lab.chip(), at.0);
-    let asked = matches_variables_filter(at.1, member_text(&request.arguments, "filter"));
-    let body = filtered_variables(alloc, &program.lab, asked, stuck, at, start, count)?;
+    let asked = matches_variables_filter(at.1, member_as_text(&request.arguments, "filter"));
+    let body = filtered_variables_body(alloc, &program.lab, asked, stuck, at, start, count)?;
     out.respond(request, body)
 }
 
@@ -171,7 +175,7 @@ pub fn respond_exception_info(
         None => out.refuse(request, "exceptionInfo: no such thread"),
         Some(node) => {
             let stuck = is_deadlocked(program.lab.chip(), node);
-            let body = exception_info(alloc, &program.lab, stuck, node)?;
+            let body = make_exception_info_body(alloc, &program.lab, stuck, node)?;
             out.respond(request, body)
         }
     }

@@ -3,7 +3,7 @@
 ghost use Rattle.std.specs.Prelude.{◌≡◌, ◌≢◌, ◌<◌, IfSome, IfNone};
 ghost use Rattle.ga_dap_queries.specs.declared.request_name.RequestName.{RequestName as ACommand};
 ghost use Rattle.ga_dap_queries.specs.Commands.{command_name};
-ghost use Rattle.ga_dap_queries.specs.inner.{command_at};
+ghost use Rattle.ga_dap_queries.specs.inner.{request_name_at};
 
 /// A request of the client.
 #[derive(Clone, Copy, PartialEq, Eq, Debug)]
@@ -97,9 +97,9 @@ fn name_of(command: RequestName) -> &'static str
 }
 
 /// The request at a place of the list.
-fn command_at(place: usize) -> RequestName
+fn request_name_at(place: usize) -> RequestName
     requires { place < 25 }
-    ensures { result ≡ command_at place }
+    ensures { result ≡ request_name_at place }
 {
     COMMANDS[place]
 }
@@ -110,7 +110,7 @@ pub fn parse_request_name(name: &str) -> Option<RequestName>
     ensures none { IfNone result ((command : ACommand) → command_name command ≢ name.now) }
 {
     'commands: for place in 0..25usize {
-        let command = command_at(place);
+        let command = request_name_at(place);
         if name_of(command) == name {
             return Some(command);
         }

@@ -2,11 +2,11 @@
 
 ghost use Rattle.std.specs.Prelude.{◌≡◌, ◌<◌, ℕ, codes, length, map, IfOk, OnOk, OnErr};
 ghost use Rattle.serde_json.specs.View.{view};
-ghost use Rattle.ga_causal.specs.Dependence.{is_marked};
+ghost use Rattle.ga_causal.specs.Dependence.{is_node_flagged};
 ghost use Rattle.ga_dap_views.specs.Json.{json_whole_number};
 ghost use Rattle.ga_dap_views.specs.Threads.{has_thread};
 ghost use Rattle.ga_dap_queries.specs.Sending.{SendsMessage, SendsMessages, event_message};
-ghost use Rattle.ga_dap_queries.specs.Events.{output_body, thread_body, thread_reason, stopped_body, breakpoint_stopped_object, breakpoint_stopped_body, thread_change_messages, thread_changes_below, IsFirstThreadNode};
+ghost use Rattle.ga_dap_queries.specs.Events.{output_event_body, thread_event_body, thread_event_reason, stopped_event_body, breakpoint_stopped_object, stopped_body_with_breakpoints, thread_change_messages, thread_change_messages_below, IsFirstThreadNode};
 
 use ga_dap_protocol::Outbox;
 use ga_dap_views::{has_thread, thread_id};
@@ -15,9 +15,9 @@ use ga_lab::Lab;
 use serde_json::{Value, json, push};
 use std::alloc::{AllocError, Global};
 
-#[tactic(auto, unfolding(crate::specs::Events::output_body))]
-fn output_body(alloc: Global, category: &str, text: &str) -> Result<Value, AllocError>
-    ensures { IfOk result (λ v. view v ≡ output_body category.now text.now) }
+#[tactic(auto, unfolding(crate::specs::Events::output_event_body))]
+fn output_event_body(alloc: Global, category: &str, text: &str) -> Result<Value, AllocError>
+    ensures { IfOk result (λ v. view v ≡ output_event_body category.now text.now) }
 {
     json!(in alloc; {"category": category, "output": text})
 }
@@ -29,43 +29,43 @@ pub fn emit_output(
     text: &str,
     out: &mut Outbox,
 ) -> Result<(), AllocError>
-    ensures sent { OnOk result (SendsMessage out.old (event_message (codes "output") (output_body category.now text.now)) out.new) }
+    ensures sent { OnOk result (SendsMessage out.old (event_message (codes "output") (output_event_body category.now text.now)) out.new) }
     ensures err { OnErr result (out.new ≡ out.old) }
 {
-    let body = output_body(alloc, category, text)?;
+    let body = output_event_body(alloc, category, text)?;
     out.add_event("output", body)
 }
 
-fn thread_reason(started: bool) -> &'static str
-    ensures { result.now ≡ thread_reason started }
+fn thread_event_reason(started: bool) -> &'static str
+    ensures { result.now ≡ thread_event_reason started }
 {
     if started { "started" } else { "exited" }
 }
 
-#[tactic(auto, unfolding(crate::specs::Events::thread_body))]
-fn thread_body(alloc: Global, reason: &str, node: NodeId) -> Result<Value, AllocError>
-    ensures { IfOk result (λ v. view v ≡ thread_body reason.now node.number) }
+#[tactic(auto, unfolding(crate::specs::Events::thread_event_body))]
+fn thread_event_body(alloc: Global, reason: &str, node: NodeId) -> Result<Value, AllocError>
+    ensures { IfOk result (λ v. view v ≡ thread_event_body reason.now node.number) }
 {
     json!(in alloc; {"reason": reason, "threadId": thread_id(node)})
 }
 
 /// `thread` (Debug Adapter Protocol, "ThreadEvent").
-pub fn emit_thread(
+pub fn emit_thread_event(
     alloc: Global,
     started: bool,
     node: NodeId,
     out: &mut Outbox,
 ) -> Result<(), AllocError>
-    ensures sent { OnOk result (SendsMessage out.old (event_message (codes "thread") (thread_body (thread_reason started) node.number)) out.new) }
+    ensures sent { OnOk result (SendsMessage out.old (event_message (codes "thread") (thread_event_body (thread_event_reason started) node.number)) out.new) }
     ensures err { OnErr result (out.new ≡ out.old) }
 {
-    let body = thread_body(alloc, thread_reason(started), node)?;
+    let body = thread_event_body(alloc, thread_event_reason(started), node)?;
     out.add_event("thread", body)
 }
 
 /// The nodes that have something to show.
-pub fn has_thread_by_node(lab: &Lab, programs: &[NodeId]) -> [bool; 144]
-    ensures marks { (n : ℕ) → n < 144 → is_marked result n ≡ has_thread lab.now programs.now n }
+pub fn thread_flags_by_node(lab: &Lab, programs: &[NodeId]) -> [bool; 144]
+    ensures marks { (n : ℕ) → n < 144 → is_node_flagged result n ≡ has_thread lab.now programs.now n }
     ensures size { length result ≡ 144 }
 {
     let mut nodes = [false; 144];
@@ -84,7 +84,7 @@ pub fn emit_thread_changes(
     now: &[bool; 144],
     out: &mut Outbox,
 ) -> Result<(), AllocError>
-    ensures { OnOk result (SendsMessages out.old (thread_changes_below (is_marked before.now) (is_marked now.now) 144) out.new) }
+    ensures { OnOk result (SendsMessages out.old (thread_change_messages_below (is_node_flagged before.now) (is_node_flagged now.now) 144) out.new) }
 {
     'nodes: for number in 0..144u8 {
         let node = NodeId::new(number);
@@ -96,7 +96,7 @@ pub fn emit_thread_changes(
 
 /// The mark of a node.
 fn is_marked(marks: &[bool; 144], node: NodeId) -> bool
-    ensures { result ≡ is_marked marks.now node.number }
+    ensures { result ≡ is_node_flagged marks.now node.number }
 {
     marks[node.index()]
 }
@@ -112,15 +112,15 @@ fn tell_if_changed(
     ensures sent { OnOk result (SendsMessages out.old (thread_change_messages before now node.number) out.new) }
 {
     match (before, now) {
-        (false, true) => emit_thread(alloc, true, node, out),
-        (true, false) => emit_thread(alloc, false, node, out),
+        (false, true) => emit_thread_event(alloc, true, node, out),
+        (true, false) => emit_thread_event(alloc, false, node, out),
         (false, false) => Ok(()),
         (true, true) => Ok(()),
     }
 }
 
 /// The first node that has something to show; 000 where none has.
-pub fn first_thread_node(lab: &Lab, programs: &[NodeId]) -> NodeId
+pub fn first_node_with_thread(lab: &Lab, programs: &[NodeId]) -> NodeId
     ensures { IsFirstThreadNode lab.now programs.now result.number }
 {
     'nodes: for number in 0..144u8 {
@@ -132,14 +132,14 @@ pub fn first_thread_node(lab: &Lab, programs: &[NodeId]) -> NodeId
     NodeId::new(0)
 }
 
-#[tactic(auto, unfolding(crate::specs::Events::stopped_body))]
-fn stopped_body(
+#[tactic(auto, unfolding(crate::specs::Events::stopped_event_body))]
+fn stopped_event_body(
     alloc: Global,
     reason: &str,
     description: &str,
     node: NodeId,
 ) -> Result<Value, AllocError>
-    ensures { IfOk result (λ v. view v ≡ stopped_body reason.now description.now node.number) }
+    ensures { IfOk result (λ v. view v ≡ stopped_event_body reason.now description.now node.number) }
 {
     json!(in alloc; {
         "allThreadsStopped": true,
@@ -151,17 +151,17 @@ fn stopped_body(
 }
 
 /// `stopped` (Debug Adapter Protocol, "StoppedEvent"): the chip is stopped.
-pub fn emit_stopped(
+pub fn emit_stopped_event(
     alloc: Global,
     reason: &str,
     description: &str,
     node: NodeId,
     out: &mut Outbox,
 ) -> Result<(), AllocError>
-    ensures sent { OnOk result (SendsMessage out.old (event_message (codes "stopped") (stopped_body reason.now description.now node.number)) out.new) }
+    ensures sent { OnOk result (SendsMessage out.old (event_message (codes "stopped") (stopped_event_body reason.now description.now node.number)) out.new) }
     ensures err { OnErr result (out.new ≡ out.old) }
 {
-    let body = stopped_body(alloc, reason, description, node)?;
+    let body = stopped_event_body(alloc, reason, description, node)?;
     out.add_event("stopped", body)
 }
 
@@ -197,14 +197,14 @@ fn breakpoint_stopped_object(
     })
 }
 
-fn breakpoint_stopped_body(
+fn stopped_body_with_breakpoints(
     alloc: Global,
     reason: &str,
     description: &str,
     node: NodeId,
     ids: &[u64],
 ) -> Result<Value, AllocError>
-    ensures { IfOk result (λ v. view v ≡ breakpoint_stopped_body reason.now description.now node.number ids.now) }
+    ensures { IfOk result (λ v. view v ≡ stopped_body_with_breakpoints reason.now description.now node.number ids.now) }
 {
     let numbers = numbers_of(alloc, ids)?;
     breakpoint_stopped_object(alloc, reason, description, node, Value::Array(numbers))
@@ -219,9 +219,9 @@ pub fn emit_breakpoint_hit(
     ids: &[u64],
     out: &mut Outbox,
 ) -> Result<(), AllocError>
-    ensures sent { OnOk result (SendsMessage out.old (event_message (codes "stopped") (breakpoint_stopped_body reason.now description.now node.number ids.now)) out.new) }
+    ensures sent { OnOk result (SendsMessage out.old (event_message (codes "stopped") (stopped_body_with_breakpoints reason.now description.now node.number ids.now)) out.new) }
     ensures err { OnErr result (out.new ≡ out.old) }
 {
-    let body = breakpoint_stopped_body(alloc, reason, description, node, ids)?;
+    let body = stopped_body_with_breakpoints(alloc, reason, description, node, ids)?;
     out.add_event("stopped", body)
 }

@@ -3,18 +3,18 @@
 ghost use Rattle.std.specs.Prelude.{◌≡◌, ◌<◌, ◌^◌, ◌∷◌, [], Some, option_map, string_bytes, IfOk, OnOk, OnErr};
 ghost use Rattle.serde_json.specs.View.{view};
 ghost use Rattle.hex.specs.Hex.{encode_lower};
-ghost use Rattle.ga_word.specs.Word.{hex6_of};
-ghost use Rattle.ga_text.specs.Digits.{hex2_of};
-ghost use Rattle.ga_dap_queries.specs.Evaluating.{cell_in_brackets};
+ghost use Rattle.ga_word.specs.Word.{hex_digits_of_word};
+ghost use Rattle.ga_text.specs.Digits.{two_hex_digits_text};
+ghost use Rattle.ga_dap_queries.specs.Evaluating.{cell_variable_in_brackets};
 ghost use Rattle.ga_dap_views.specs.Variables.{memory_reference};
 ghost use Rattle.ga_dap_views.specs.declared.scope.Scope.TheVariants.{Ram};
 ghost use Rattle.ga_dap_views.specs.declared.variable.Variable.TheVariants.{Cell};
 ghost use Rattle.ga_dap_queries.specs.Sending.{SendsMessage, Message};
-ghost use Rattle.ga_dap_queries.specs.Watching.{data_breakpoint_info_object, no_data_breakpoint_info_object, cell_description, ram_cell_of_name, data_info_of_cell, data_info_in_scope, data_info_body, AnswersDataBreakpointInfo};
+ghost use Rattle.ga_dap_queries.specs.Watching.{data_breakpoint_info_object, no_data_breakpoint_info_object, cell_description, ram_cell_of_name, data_breakpoint_info_of_cell, data_breakpoint_info_in_scope, data_breakpoint_info_body, AnswersDataBreakpointInfo};
 
-use crate::arguments::scope_argument;
+use crate::arguments::variables_reference_argument;
 use crate::naming::push_node_name;
-use ga_dap_protocol::{ClientRequest, Outbox, member_text};
+use ga_dap_protocol::{ClientRequest, Outbox, member_as_text};
 use ga_dap_views::{Scope, chip_address};
 use ga_grid::NodeId;
 use ga_text::parse_hex_byte;
@@ -51,7 +51,7 @@ fn six_digits(alloc: Global, high: u8, middle: u8, low: u8) -> Result<String, Al
 #[tactic(auto, using(crate::proofs::Sent::six_digits))]
 fn address_digits(alloc: Global, address: u32) -> Result<String, AllocError>
     requires { address < 2 ^ 24 }
-    ensures { IfOk result (λ text. string_bytes text ≡ hex6_of address) }
+    ensures { IfOk result (λ text. string_bytes text ≡ hex_digits_of_word address) }
 {
     six_digits(
         alloc,
@@ -75,7 +75,7 @@ fn reference_text(alloc: Global, address: u32) -> Result<String, AllocError>
 /// Two hexadecimal digits.
 #[tactic(auto, unfolding(hex::specs::Hex::encode_with))]
 fn two_digits(alloc: Global, byte: u8) -> Result<String, AllocError>
-    ensures { IfOk result (λ text. string_bytes text ≡ hex2_of byte) }
+    ensures { IfOk result (λ text. string_bytes text ≡ two_hex_digits_text byte) }
 {
     let bytes = [byte];
     hex::encode(alloc, bytes.as_slice())
@@ -94,8 +94,8 @@ fn cell_description(alloc: Global, node: NodeId, cell: u8) -> Result<String, All
 }
 
 /// The cell of two hexadecimal digits in brackets.
-fn cell_in_brackets(text: &[u8]) -> Option<u8>
-    ensures { option_map (λ cell. Cell cell) result ≡ cell_in_brackets text.now }
+fn cell_variable_in_brackets(text: &[u8]) -> Option<u8>
+    ensures { option_map (λ cell. Cell cell) result ≡ cell_variable_in_brackets text.now }
 {
     if text.len() == 4 && text[0] == b'[' && text[3] == b']' {
         parse_hex_byte(&text[1..3])
@@ -108,15 +108,19 @@ fn cell_in_brackets(text: &[u8]) -> Option<u8>
 fn ram_cell_of_name(text: &[u8]) -> Option<u8>
     ensures { result ≡ ram_cell_of_name text.now }
 {
-    match cell_in_brackets(text) {
+    match cell_variable_in_brackets(text) {
         Some(cell) => { if cell < 128 { Some(cell) } else { None } }
         None => None,
     }
 }
 
 /// What is sent about a cell of RAM.
-fn data_info_of_cell(alloc: Global, node: NodeId, cell: Option<u8>) -> Result<Value, AllocError>
-    ensures { IfOk result (λ v. view v ≡ data_info_of_cell node cell) }
+fn data_breakpoint_info_of_cell(
+    alloc: Global,
+    node: NodeId,
+    cell: Option<u8>,
+) -> Result<Value, AllocError>
+    ensures { IfOk result (λ v. view v ≡ data_breakpoint_info_of_cell node cell) }
 {
     match cell {
         Some(cell) => watched_named(alloc, node, cell),
@@ -125,7 +129,7 @@ fn data_info_of_cell(alloc: Global, node: NodeId, cell: Option<u8>) -> Result<Va
 }
 
 fn watched_named(alloc: Global, node: NodeId, cell: u8) -> Result<Value, AllocError>
-    ensures { IfOk result (λ v. view v ≡ data_info_of_cell node (Some cell)) }
+    ensures { IfOk result (λ v. view v ≡ data_breakpoint_info_of_cell node (Some cell)) }
 {
     let id = reference_text(alloc, chip_address(node, cell))?;
     let description = cell_description(alloc, node, cell)?;
@@ -134,42 +138,42 @@ fn watched_named(alloc: Global, node: NodeId, cell: u8) -> Result<Value, AllocEr
 
 /// What is sent about the variable of a name in the RAM of a node.
 fn watched_in_ram(alloc: Global, node: NodeId, name: Option<&str>) -> Result<Value, AllocError>
-    ensures { IfOk result (λ v. view v ≡ data_info_in_scope Ram node (option_map (λ text. text.now) name.entry)) }
+    ensures { IfOk result (λ v. view v ≡ data_breakpoint_info_in_scope Ram node (option_map (λ text. text.now) name.entry)) }
 {
     match name {
-        Some(text) => data_info_of_cell(alloc, node, ram_cell_of_name(text.as_bytes())),
+        Some(text) => data_breakpoint_info_of_cell(alloc, node, ram_cell_of_name(text.as_bytes())),
         None => no_data_breakpoint_info_object(alloc),
     }
 }
 
 /// What is sent about the variable of a name in a scope.
-fn data_info_in_scope(
+fn data_breakpoint_info_in_scope(
     alloc: Global,
     scope: Scope,
     node: NodeId,
     name: Option<&str>,
 ) -> Result<Value, AllocError>
-    ensures { IfOk result (λ v. view v ≡ data_info_in_scope scope node (option_map (λ text. text.now) name.entry)) }
+    ensures { IfOk result (λ v. view v ≡ data_breakpoint_info_in_scope scope node (option_map (λ text. text.now) name.entry)) }
 {
     match scope {
         Scope::Ram => watched_in_ram(alloc, node, name),
         Scope::Registers => no_data_breakpoint_info_object(alloc),
-        Scope::Data => no_data_breakpoint_info_object(alloc),
-        Scope::Returns => no_data_breakpoint_info_object(alloc),
+        Scope::DataStackScope => no_data_breakpoint_info_object(alloc),
+        Scope::ReturnStackScope => no_data_breakpoint_info_object(alloc),
         Scope::Links => no_data_breakpoint_info_object(alloc),
         Scope::Rom => no_data_breakpoint_info_object(alloc),
     }
 }
 
-fn data_info_body(
+fn data_breakpoint_info_body(
     alloc: Global,
     at: Option<(NodeId, Scope)>,
     name: Option<&str>,
 ) -> Result<Value, AllocError>
-    ensures { IfOk result (λ v. view v ≡ data_info_body at (option_map (λ text. text.now) name.entry)) }
+    ensures { IfOk result (λ v. view v ≡ data_breakpoint_info_body at (option_map (λ text. text.now) name.entry)) }
 {
     match at {
-        Some(at) => data_info_in_scope(alloc, at.1, at.0, name),
+        Some(at) => data_breakpoint_info_in_scope(alloc, at.1, at.0, name),
         None => no_data_breakpoint_info_object(alloc),
     }
 }
@@ -183,7 +187,7 @@ pub fn respond_data_breakpoint_info(
     ensures sent { OnOk result ((message : Message) × AnswersDataBreakpointInfo request.now message × SendsMessage out.old message out.new) }
     ensures err { OnErr result (out.new ≡ out.old) }
 {
-    let at = scope_argument(&request.arguments);
-    let body = data_info_body(alloc, at, member_text(&request.arguments, "name"))?;
+    let at = variables_reference_argument(&request.arguments);
+    let body = data_breakpoint_info_body(alloc, at, member_as_text(&request.arguments, "name"))?;
     out.respond(request, body)
 }

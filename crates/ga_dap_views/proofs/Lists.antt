@@ -8,30 +8,30 @@ use Rattle.serde_json.specs.Data.{Data, array}
 use Rattle.serde_json.specs.View.{view, items_of}
 use Rattle.serde_json.specs.declared.value.Value.{Value}
 use Rattle.ga_grid.specs.declared.node_id.NodeId.{NodeId}
-use Rattle.ga_lab.specs.Machine.{State}
+use Rattle.ga_lab.specs.Machine.{MachineState}
 use Rattle.ga_dap_views.specs.Threads.{has_thread, node_thread_object, nodes_with_threads}
 use Rattle.ga_debug_info.specs.declared.notes.DebugInfo.{DebugInfo}
 use Rattle.ga_dap_views.specs.declared.frames.SourceFile.{SourceFile}
 use Rattle.ga_dap_views.specs.Calls.{open_calls}
-use Rattle.ga_dap_views.specs.Frames.{frame_object, frame_slot_address, stack_object, stack_trace}
-use Rattle.ga_dap_views.specs.Json.{json_array_of}
-use Rattle.ga_dap_views.specs.Variables.{requested_range}
+use Rattle.ga_dap_views.specs.Frames.{frame_object, frame_slot_address, stack_frames_object, stack_trace_body}
+use Rattle.ga_dap_views.specs.Json.{json_array_of_mapped_items}
+use Rattle.ga_dap_views.specs.Variables.{requested_index_range}
 
 range_more : (n : ℕ) → range_with_len 0 (n + 1) ≡ range_with_len 0 n ++ n ∷ []
 range_more n = sym (map-id (range_with_len 0 (n + 1))) ∙ map-range_with_len_more (λ (x : ℕ). x) 0 n n (omega arith) ∙ ap (λ (z : List ℕ). z ++ n ∷ []) (map-id (range_with_len 0 n))
 
-chosen_more : (s : State) (programs : List NodeId) (n : ℕ)
+chosen_more : (s : MachineState) (programs : List NodeId) (n : ℕ)
     → nodes_with_threads s programs (n + 1) ≡ nodes_with_threads s programs n ++ filter (has_thread s programs) (n ∷ [])
 unfolding nodes_with_threads
 chosen_more s programs n =
     ap (λ (z : List ℕ). filter (has_thread s programs) z) (range_more n) ∙ filter-append (has_thread s programs) (range_with_len 0 n) (n ∷ [])
 
-pub no_threads : (s : State) (programs : List NodeId) → nodes_with_threads s programs 0 ≡ []
+pub no_threads : (s : MachineState) (programs : List NodeId) → nodes_with_threads s programs 0 ≡ []
 unfolding nodes_with_threads
 no_threads s programs = refl
 
 -- the thread of one more node, where it has one
-pub thread_step : (s : State) (programs : List NodeId) (n at : ℕ) (old new : List Data) → at ≡ n → old ≡ map (node_thread_object s) (nodes_with_threads s programs n)
+pub thread_step : (s : MachineState) (programs : List NodeId) (n at : ℕ) (old new : List Data) → at ≡ n → old ≡ map (node_thread_object s) (nodes_with_threads s programs n)
     → new ≡ old ++ map (node_thread_object s) (filter (has_thread s programs) (at ∷ [])) → new ≡ map (node_thread_object s) (nodes_with_threads s programs (n + 1))
 thread_step s programs n at old new same before grown =
     grown
@@ -74,7 +74,7 @@ at_most true left count = omega arith
 at_most false left count = omega arith
 
 pub places_so : (first end total start count : ℕ) → first ≡ min start total → end ≡ first + cond (count == 0) (total - start) (min count (total - start))
-    → range_with_len first (end - first) ≡ requested_range total start count
+    → range_with_len first (end - first) ≡ requested_index_range total start count
 places_so first end total start count at size =
     let many : ℕ = cond (count == 0) (total - start) (min count (total - start)) in
     let few : many ≤ total - start = at_most (count == 0) (total - start) count in
@@ -82,10 +82,10 @@ places_so first end total start count at size =
     ∙ ap (λ (z : ℕ). range_with_len z many) at
     ∙ from_min total start many few
 
-pub stack_so : (file : SourceFile) (notes : DebugInfo) (s : State) (node : NodeId) (start count total : ℕ) (list : List Data) (range : List ℕ) → total ≡ length (open_calls s node) + 1
-    → list ≡ map (λ (k : ℕ). frame_object file notes node k (frame_slot_address s node k)) range → range ≡ requested_range total start count
-    → stack_object (array (items_of list)) total ≡ stack_trace file notes s node start count
+pub stack_so : (file : SourceFile) (notes : DebugInfo) (s : MachineState) (node : NodeId) (start count total : ℕ) (list : List Data) (range : List ℕ) → total ≡ length (open_calls s node) + 1
+    → list ≡ map (λ (k : ℕ). frame_object file notes node k (frame_slot_address s node k)) range → range ≡ requested_index_range total start count
+    → stack_frames_object (array (items_of list)) total ≡ stack_trace_body file notes s node start count
 stack_so file notes s node start count total list range many are places =
     let of : ℕ → Data = λ k. frame_object file notes node k (frame_slot_address s node k) in
-    ap (λ (z : List Data). stack_object (array (items_of z)) total) (are ∙ ap (λ (z : List ℕ). map of z) places)
-    ∙ ap (λ (z : ℕ). stack_object (json_array_of of (requested_range z start count)) z) many
+    ap (λ (z : List Data). stack_frames_object (array (items_of z)) total) (are ∙ ap (λ (z : List ℕ). map of z) places)
+    ∙ ap (λ (z : ℕ). stack_frames_object (json_array_of_mapped_items of (requested_index_range z start count)) z) many

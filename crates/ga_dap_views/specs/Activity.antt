@@ -2,16 +2,16 @@
 -- DB001, ports).
 use Rattle.std.specs.Prelude.{ℕ, ◌==◌, ◌-◌, nat_lt, if◌then◌else◌, List, [], ◌∷◌, ◌++◌, codes, decimal}
 use Rattle.ga_text.specs.Lines.{Text}
-use Rattle.ga_text.specs.Digits.{decimal3_of}
-use Rattle.ga_word.specs.Word.{hex6_of}
+use Rattle.ga_text.specs.Digits.{three_decimal_digits}
+use Rattle.ga_word.specs.Word.{hex_digits_of_word}
 use Rattle.ga_ports.specs.Address.{has_side}
 use Rattle.ga_ports.specs.declared.side.Side.{Side}
 use Rattle.ga_ports.specs.declared.side.Side.TheVariants.{Right, Down, Left, Up}
 use Rattle.ga_node.specs.Record.{NodeRecord}
 use Rattle.ga_node.specs.declared.wait.Wait.{Wait}
 use Rattle.ga_node.specs.declared.wait.Wait.TheVariants as wait
-use Rattle.ga_grid.specs.Grid.{yxx_of}
-use Rattle.ga_grid.specs.Chip.{record_at}
+use Rattle.ga_grid.specs.Grid.{decimal_name_of_node}
+use Rattle.ga_grid.specs.Chip.{node_record_at}
 
 abbrev pub side_name : Side → Text
 side_name Right = codes "right"
@@ -29,8 +29,8 @@ abbrev pub side_names : ℕ → Text
 side_names sides = append_side_name sides Up (append_side_name sides Left (append_side_name sides Down (append_side_name sides Right [])))
 
 -- a stop by its number (docs/REFERENCE.md, "Steps, dependence and rollback")
-abbrev pub stop_text : ℕ → Text
-stop_text stop =
+abbrev pub node_stop_text : ℕ → Text
+node_stop_text stop =
     if stop == 0 then codes "runs"
     else if stop == 1 then codes "stopped: a write to several ports"
     else if stop == 2 then codes "stopped: an address that names nothing"
@@ -41,18 +41,18 @@ abbrev pub wait_activity_text : Wait → ℕ → Text
 wait_activity_text (wait.Fetch sides) stop = codes "waits for code from " ++ side_names sides
 wait_activity_text (wait.Read sides) stop = codes "waits to read from " ++ side_names sides
 wait_activity_text (wait.Write side) stop = codes "waits to write to " ++ side_name side
-wait_activity_text wait.Nothing stop = stop_text stop
+wait_activity_text wait.Nothing stop = node_stop_text stop
 
 -- what a node of a chip does; with its name before it
 abbrev pub thread_activity_text : List NodeRecord → ℕ → Text
-thread_activity_text chip n = wait_activity_text (record_at chip n).wait (record_at chip n).stop
+thread_activity_text chip n = wait_activity_text (node_record_at chip n).wait (node_record_at chip n).stop
 
 abbrev pub node_name_and_activity_text : List NodeRecord → ℕ → Text
-node_name_and_activity_text chip n = decimal3_of (yxx_of n) ++ codes " " ++ thread_activity_text chip n
+node_name_and_activity_text chip n = three_decimal_digits (decimal_name_of_node n) ++ codes " " ++ thread_activity_text chip n
 
 -- a word: its six digits, the number, and the negative number where its highest bit is set
-abbrev pub negative_word_text : ℕ → Text
-negative_word_text word = if nat_lt word 0x20000 then [] else codes " = -" ++ decimal (0x40000 - word)
+abbrev pub negative_value_suffix_text : ℕ → Text
+negative_value_suffix_text word = if nat_lt word 0x20000 then [] else codes " = -" ++ decimal (0x40000 - word)
 
 abbrev pub word_value_text : ℕ → Text
-word_value_text word = hex6_of word ++ codes " = " ++ decimal word ++ negative_word_text word
+word_value_text word = hex_digits_of_word word ++ codes " = " ++ decimal word ++ negative_value_suffix_text word

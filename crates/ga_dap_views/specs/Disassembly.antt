@@ -4,24 +4,24 @@ use Rattle.std.specs.Prelude.{ℕ, zero, suc, ◌+◌, ◌%◌, ◌==◌, nat_lt
 use Rattle.std.specs.List.{range_with_len}
 use Rattle.std.specs.Str.Lossy.{utf8_lossy}
 use Rattle.serde_json.specs.Data.{Data, string, object, Members, no_members, member, put}
-use Rattle.ga_word.specs.Word.{hex6_of, hex_digit}
+use Rattle.ga_word.specs.Word.{hex_digits_of_word, hex_digit_at_place}
 use Rattle.ga_slots.specs.declared.op.Op.{Op}
 use Rattle.ga_slots.specs.declared.op.Op.TheVariants.{Return, Execute, Jump, Call, Next, If, MinusIf}
-use Rattle.ga_slots.specs.Codes.{name_of}
+use Rattle.ga_slots.specs.Codes.{name_of_opcode}
 use Rattle.ga_slots.specs.Slots.{opcode, target}
 use Rattle.ga_ports.specs.Address.{advanced_address}
 use Rattle.ga_text.specs.Lines.{Text}
 use Rattle.ga_grid.specs.declared.node_id.NodeId.{NodeId}
-use Rattle.ga_grid.specs.Chip.{record_at}
-use Rattle.ga_lab.specs.Machine.{State, chip_of, memory_word_at}
+use Rattle.ga_grid.specs.Chip.{node_record_at}
+use Rattle.ga_lab.specs.Machine.{MachineState, chip_of_machine, memory_word_at_address}
 use Rattle.ga_debug_info.specs.declared.notes.LabelAddress.{LabelAddress}
 use Rattle.ga_debug_info.specs.declared.notes.CellSource.{CellSource}
 use Rattle.ga_debug_info.specs.declared.notes.DebugInfo.{DebugInfo}
 use Rattle.ga_debug_info.specs.Source.{cell_of_address}
 use Rattle.ga_dap_views.specs.declared.frames.SourceFile.{SourceFile}
 use Rattle.ga_dap_views.specs.Frames.{source_object}
-use Rattle.ga_dap_views.specs.Json.{json_whole_number, json_array_of, json_object_of_member}
-use Rattle.ga_dap_views.specs.Labels.{label_of_cell, source_of_cell}
+use Rattle.ga_dap_views.specs.Json.{json_whole_number, json_array_of_mapped_items, json_object_of_member}
+use Rattle.ga_dap_views.specs.Labels.{label_of_cell, debug_info_of_cell}
 use Rattle.ga_dap_views.specs.Numbers.{chip_address}
 use Rattle.ga_dap_views.specs.Variables.{memory_reference}
 
@@ -29,15 +29,15 @@ use Rattle.ga_dap_views.specs.Variables.{memory_reference}
 
 -- an address in three hexadecimal digits
 abbrev pub three_hex_digits : ℕ → Text
-three_hex_digits n = hex_digit n 2 ∷ hex_digit n 1 ∷ hex_digit n 0 ∷ []
+three_hex_digits n = hex_digit_at_place n 2 ∷ hex_digit_at_place n 1 ∷ hex_digit_at_place n 0 ∷ []
 
 -- where a jump leads: the label there, or the address without bit 9
-abbrev pub label_or_address : ℕ → Option LabelAddress → Text
-label_or_address address None = three_hex_digits (address % 512)
-label_or_address address (Some name) = utf8_lossy name.text.items
+abbrev pub label_or_address_text : ℕ → Option LabelAddress → Text
+label_or_address_text address None = three_hex_digits (address % 512)
+label_or_address_text address (Some name) = utf8_lossy name.text.items
 
 abbrev pub jump_target_text : DebugInfo → NodeId → ℕ → Text
-jump_target_text notes node address = label_or_address address (option_and_then (label_of_cell notes.names.items node) (cell_of_address address))
+jump_target_text notes node address = label_or_address_text address (option_and_then (label_of_cell notes.names.items node) (cell_of_address address))
 
 -- what follows an opcode: an address, nothing that is carried out, or the next slot
 abbrev pub has_address_operand : Op → Bool
@@ -59,14 +59,14 @@ slot_target_text notes node p word slot =
     if slot == 3 then [] else if has_address_operand (opcode word slot) then codes " " ++ jump_target_text notes node (target p word slot) else []
 
 -- an opcode after a blank, except for the first
-abbrev pub with_leading_blank : ℕ → Text → Text
-with_leading_blank slot text = if slot == 0 then text else codes " " ++ text
+abbrev pub opcode_with_leading_blank : ℕ → Text → Text
+opcode_with_leading_blank slot text = if slot == 0 then text else codes " " ++ text
 
 -- the opcodes of `left` slots from one on, up to one after which nothing is carried out; P is that after the cell
 unfoldable pub slots_text : DebugInfo → NodeId → ℕ → ℕ → ℕ → ℕ → Text
 slots_text notes node p word slot zero = []
 slots_text notes node p word slot (suc left) =
-    with_leading_blank slot (name_of (opcode word slot)) ++ slot_target_text notes node p word slot
+    opcode_with_leading_blank slot (name_of_opcode (opcode word slot)) ++ slot_target_text notes node p word slot
     ++ (if ends_instruction_word (opcode word slot) then [] else slots_text notes node p word (slot + 1) left)
 
 -- ---- an instruction
@@ -78,27 +78,27 @@ is_data_in_source (Some note) = if note.is_code then false else true
 
 abbrev pub instruction_text : DebugInfo → NodeId → ℕ → ℕ → Text
 instruction_text notes node cell word =
-    if is_data_in_source (source_of_cell notes node cell) then codes "word " ++ decimal word else slots_text notes node (advanced_address cell) word 0 4
+    if is_data_in_source (debug_info_of_cell notes node cell) then codes "word " ++ decimal word else slots_text notes node (advanced_address cell) word 0 4
 
 -- the line and the label of a cell, where the source has them
-abbrev pub with_source_line_members : SourceFile → Option CellSource → Members → Members
-with_source_line_members file None members = members
-with_source_line_members file (Some note) members = put (codes "location") (source_object file) (put (codes "line") (json_whole_number note.line) members)
+abbrev pub members_with_source_line : SourceFile → Option CellSource → Members → Members
+members_with_source_line file None members = members
+members_with_source_line file (Some note) members = put (codes "location") (source_object file) (put (codes "line") (json_whole_number note.line) members)
 
-abbrev pub with_label_member : Option LabelAddress → Members → Members
-with_label_member None members = members
-with_label_member (Some name) members = put (codes "symbol") (string (utf8_lossy name.text.items)) members
+abbrev pub members_with_label : Option LabelAddress → Members → Members
+members_with_label None members = members
+members_with_label (Some name) members = put (codes "symbol") (string (utf8_lossy name.text.items)) members
 
 abbrev pub instruction_members : Text → Text → Text → Members
 instruction_members address words bytes =
     put (codes "instructionBytes") (string bytes) (put (codes "instruction") (string words) (put (codes "address") (string address) no_members))
 
 -- the cell at an address of the node, as an instruction
-abbrev pub instruction_object : SourceFile → DebugInfo → State → NodeId → ℕ → ℕ → Data
+abbrev pub instruction_object : SourceFile → DebugInfo → MachineState → NodeId → ℕ → ℕ → Data
 instruction_object file notes s node address cell =
-    let word = memory_word_at (record_at (chip_of s) node.number) cell in
-    object (with_label_member (label_of_cell notes.names.items node cell) (with_source_line_members file (source_of_cell notes node cell)
-    (instruction_members (memory_reference (chip_address node.number address)) (instruction_text notes node cell word) (hex6_of word))))
+    let word = memory_word_at_address (node_record_at (chip_of_machine s) node.number) cell in
+    object (members_with_label (label_of_cell notes.names.items node cell) (members_with_source_line file (debug_info_of_cell notes node cell)
+    (instruction_members (memory_reference (chip_address node.number address)) (instruction_text notes node cell word) (hex_digits_of_word word))))
 
 -- the instruction of an address at which a node has no cell
 unfoldable pub invalid_instruction_object : Text → Data
@@ -107,18 +107,18 @@ invalid_instruction_object address =
     (member (codes "presentationHint") (string (codes "invalid")) no_members)))
 
 -- The first 256 addresses of a node name its cells: RAM and ROM, twice each.
-abbrev pub cell_in_node : ℕ → Option ℕ
-cell_in_node address = if nat_lt address 256 then cell_of_address address else None
+abbrev pub cell_of_node_address : ℕ → Option ℕ
+cell_of_node_address address = if nat_lt address 256 then cell_of_address address else None
 
-abbrev pub instruction_or_invalid : SourceFile → DebugInfo → State → NodeId → ℕ → Option ℕ → Data
-instruction_or_invalid file notes s node address None = invalid_instruction_object (memory_reference (chip_address node.number address))
-instruction_or_invalid file notes s node address (Some cell) = instruction_object file notes s node address cell
+abbrev pub instruction_object_or_invalid : SourceFile → DebugInfo → MachineState → NodeId → ℕ → Option ℕ → Data
+instruction_object_or_invalid file notes s node address None = invalid_instruction_object (memory_reference (chip_address node.number address))
+instruction_object_or_invalid file notes s node address (Some cell) = instruction_object file notes s node address cell
 
-abbrev pub instruction_at : SourceFile → DebugInfo → State → NodeId → ℕ → Data
-instruction_at file notes s node address = instruction_or_invalid file notes s node address (cell_in_node address)
+abbrev pub instruction_object_at : SourceFile → DebugInfo → MachineState → NodeId → ℕ → Data
+instruction_object_at file notes s node address = instruction_object_or_invalid file notes s node address (cell_of_node_address address)
 
 -- The body of the response: `count` instructions from an address of the node on; after the last of its 4096 addresses comes the
 -- first.
-abbrev pub disassemble_body : SourceFile → DebugInfo → State → NodeId → ℕ → ℕ → Data
-disassemble_body file notes s node first count =
-    json_object_of_member (codes "instructions") (json_array_of (λ k. instruction_at file notes s node (k % 4096)) (range_with_len first count))
+abbrev pub disassemble_response_body : SourceFile → DebugInfo → MachineState → NodeId → ℕ → ℕ → Data
+disassemble_response_body file notes s node first count =
+    json_object_of_member (codes "instructions") (json_array_of_mapped_items (λ k. instruction_object_at file notes s node (k % 4096)) (range_with_len first count))

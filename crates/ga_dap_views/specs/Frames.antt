@@ -4,21 +4,21 @@ use Rattle.std.specs.Prelude.{ℕ, zero, suc, ◌+◌, ◌++◌, length, codes, 
 use Rattle.std.specs.List.{slice_get}
 use Rattle.serde_json.specs.Data.{Data, string, object, no_members, member}
 use Rattle.ga_text.specs.Lines.{Text}
-use Rattle.ga_text.specs.Digits.{decimal3_of}
-use Rattle.ga_grid.specs.Grid.{yxx_of}
+use Rattle.ga_text.specs.Digits.{three_decimal_digits}
+use Rattle.ga_grid.specs.Grid.{decimal_name_of_node}
 use Rattle.ga_grid.specs.declared.node_id.NodeId.{NodeId}
-use Rattle.ga_lab.specs.Machine.{State}
+use Rattle.ga_lab.specs.Machine.{MachineState}
 use Rattle.ga_debug_info.specs.declared.notes.DebugInfo.{DebugInfo}
 use Rattle.ga_debug_info.specs.declared.wording.SlotWord.{SlotWord}
 use Rattle.ga_dap_views.specs.declared.spots.SlotAddress.{SlotAddress}
 use Rattle.ga_dap_views.specs.declared.calls.OpenCall.{OpenCall}
 use Rattle.ga_dap_views.specs.declared.frames.SourceFile.{SourceFile}
 use Rattle.ga_dap_views.specs.Calls.{open_calls}
-use Rattle.ga_dap_views.specs.Json.{json_whole_number, json_array_of}
+use Rattle.ga_dap_views.specs.Json.{json_whole_number, json_array_of_mapped_items}
 use Rattle.ga_dap_views.specs.Labels.{cell_location_text, source_word_of_slot}
 use Rattle.ga_dap_views.specs.Numbers.{frame_id, chip_address}
 use Rattle.ga_dap_views.specs.Spots.{current_slot_address}
-use Rattle.ga_dap_views.specs.Variables.{memory_reference, requested_range}
+use Rattle.ga_dap_views.specs.Variables.{memory_reference, requested_index_range}
 
 -- the file of the source ("Source")
 unfoldable pub source_object : SourceFile → Data
@@ -43,12 +43,12 @@ frame_object_outside_memory id name =
     (member (codes "presentationHint") (string (codes "subtle")) no_members)))))
 
 -- the name of a frame
-abbrev pub location_text : DebugInfo → NodeId → Option SlotAddress → Text
-location_text notes node None = codes "outside its memory"
-location_text notes node (Some spot) = cell_location_text notes node spot.cell
+abbrev pub frame_location_text : DebugInfo → NodeId → Option SlotAddress → Text
+frame_location_text notes node None = codes "outside its memory"
+frame_location_text notes node (Some spot) = cell_location_text notes node spot.cell
 
 abbrev pub frame_name : DebugInfo → NodeId → Option SlotAddress → Text
-frame_name notes node spot = decimal3_of (yxx_of node.number) ++ codes " " ++ location_text notes node spot
+frame_name notes node spot = three_decimal_digits (decimal_name_of_node node.number) ++ codes " " ++ frame_location_text notes node spot
 
 abbrev pub frame_object_in_memory : SourceFile → ℕ → Text → Text → Option SlotWord → Data
 frame_object_in_memory file id name pointer None = frame_object_without_source id name pointer
@@ -62,19 +62,19 @@ abbrev pub frame_object : SourceFile → DebugInfo → NodeId → ℕ → Option
 frame_object file notes node level spot = frame_object_at_location file notes node (frame_id node.number level) (frame_name notes node spot) spot
 
 -- the positions of the frames: that of the node itself, then those of the calls
-abbrev pub call_slot_address : Option OpenCall → Option SlotAddress
-call_slot_address None = None
-call_slot_address (Some call) = call.at
+abbrev pub slot_address_of_open_call : Option OpenCall → Option SlotAddress
+slot_address_of_open_call None = None
+slot_address_of_open_call (Some call) = call.at
 
-abbrev pub frame_slot_address : State → NodeId → ℕ → Option SlotAddress
+abbrev pub frame_slot_address : MachineState → NodeId → ℕ → Option SlotAddress
 frame_slot_address s node zero = current_slot_address s node
-frame_slot_address s node (suc k) = call_slot_address (slice_get (open_calls s node) k)
+frame_slot_address s node (suc k) = slot_address_of_open_call (slice_get (open_calls s node) k)
 
 -- The body of the response: `count` frames from one on, or all remaining if the number is 0; and how many there are.
-unfoldable pub stack_object : Data → ℕ → Data
-stack_object frames total = object (member (codes "stackFrames") frames (member (codes "totalFrames") (json_whole_number total) no_members))
+unfoldable pub stack_frames_object : Data → ℕ → Data
+stack_frames_object frames total = object (member (codes "stackFrames") frames (member (codes "totalFrames") (json_whole_number total) no_members))
 
-abbrev pub stack_trace : SourceFile → DebugInfo → State → NodeId → ℕ → ℕ → Data
-stack_trace file notes s node start count =
+abbrev pub stack_trace_body : SourceFile → DebugInfo → MachineState → NodeId → ℕ → ℕ → Data
+stack_trace_body file notes s node start count =
     let total = length (open_calls s node) + 1 in
-    stack_object (json_array_of (λ k. frame_object file notes node k (frame_slot_address s node k)) (requested_range total start count)) total
+    stack_frames_object (json_array_of_mapped_items (λ k. frame_object file notes node k (frame_slot_address s node k)) (requested_index_range total start count)) total

@@ -7,8 +7,8 @@ abbrev pub json_whole_number : ℕ → Data
 json_whole_number n = number (unsigned n)
 
 -- the list of what each of some things is
-abbrev pub json_array_of : {A : Type 0} → (A → Data) → List A → Data
-json_array_of f xs = array (items_of (map f xs))
+abbrev pub json_array_of_mapped_items : {A : Type 0} → (A → Data) → List A → Data
+json_array_of_mapped_items f xs = array (items_of (map f xs))
 
 -- an object of one member
 abbrev pub json_object_of_member : List ℕ → Data → Data

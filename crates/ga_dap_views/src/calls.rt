@@ -2,16 +2,16 @@
 
 ghost use Rattle.std.specs.Prelude.{◌≡◌, ◌<◌, ◌≤◌, ◌+◌, ◌-◌, ◌==◌, ◌&&◌, ◌++◌, Bool, length, map, IfSome, IfNone};
 ghost use Rattle.arrayvec.specs.ArrayVec.{array_vec_len};
-ghost use Rattle.ga_node.specs.Table.{r};
+ghost use Rattle.ga_node.specs.Table.{register_r};
 ghost use Rattle.ga_lab.specs.Machine.{node_at_step};
 ghost use Rattle.ga_provenance.specs.Origins.{node_after_steps};
 ghost use Rattle.ga_dap_views.specs.Calls.{open_call, open_calls};
-ghost use Rattle.ga_dap_views.specs.inner.{counted, shift_op, shift_at, is_calls, put_first, IsBefore};
+ghost use Rattle.ga_dap_views.specs.inner.{count_down_return_stack_effect, return_stack_effect_of_opcode, return_stack_effect_of_step, is_call_return_stack_effect, new_call_entry_at_window_start, IsCallWindowBeforeStep};
 
-use crate::spots::{SlotAddress, slot_address_at};
+use crate::spots::{SlotAddress, slot_address_of_walked_back_node};
 use arrayvec::ArrayVec;
 use ga_grid::NodeId;
-use ga_lab::{Lab, Made, NodeWalk};
+use ga_lab::{Lab, MadeEvent, NodeWalk};
 use ga_node::OwnEventKind;
 use ga_slots::Op;
 
@@ -51,8 +51,8 @@ struct Window {
 
 /// What an opcode does to the entries of the return stack; none where R decides it.
 fn shift_of(op: Op) -> Option<ReturnStackEffect>
-    ensures sure { IfSome result (λ shift. (last : Bool) → shift ≡ shift_op op last) }
-    ensures unsure { IfNone result ((last : Bool) → counted last ≡ shift_op op last) }
+    ensures sure { IfSome result (λ shift. (last : Bool) → shift ≡ return_stack_effect_of_opcode op last) }
+    ensures unsure { IfNone result ((last : Bool) → count_down_return_stack_effect last ≡ return_stack_effect_of_opcode op last) }
 {
     match op {
         Op::Return | Op::Pop => Some(ReturnStackEffect::Pops),
@@ -67,13 +67,13 @@ fn shift_of(op: Op) -> Option<ReturnStackEffect>
 /// Whether R was 0 right before the step at a place. The node is walked back there.
 fn counts_out(walk: &mut NodeWalk<'_>, at: u32) -> bool
     requires order { at ≤ walk.old.step }
-    ensures value { result ≡ (r (node_after_steps walk.old.machine walk.old.node.number at) == 0) }
+    ensures value { result ≡ (register_r (node_after_steps walk.old.machine walk.old.node.number at) == 0) }
     ensures walk { walk.new ≡ node_at_step walk.old.machine walk.old.node at }
 {
     // Called for its contract: the node has the walk's number of steps.
     walk.step();
     walk.walk_back_to(at);
-    walk.node().r(0) == 0
+    walk.node().word_of_return_stack(0) == 0
 }
 
 /// What the step at a place does to the entries of the return stack. The node is walked back there only where R decides it.
@@ -85,12 +85,12 @@ pub(crate) fn return_stack_effect(
 ) -> ReturnStackEffect
     requires walk { walk.old ≡ node_at_step lab.now node walk.old.step }
     requires order { at ≤ walk.old.step }
-    ensures shift { result ≡ shift_at lab.now node.number at }
+    ensures shift { result ≡ return_stack_effect_of_step lab.now node.number at }
     ensures walk { walk.new ≡ node_at_step lab.now node walk.new.step }
     ensures order { at ≤ walk.new.step }
 {
     let Some(
-        Made::Own {
+        MadeEvent::Own {
             kind: OwnEventKind::Run(code),
             ..
         },
@@ -115,9 +115,9 @@ fn before_push(window: Window) -> Window
     requires some { 0 < window.left }
     requires within { window.place + window.left ≤ 9 }
     ensures within { result.place + result.left ≤ 9 }
-    ensures room { length (put_first ReturnStackEffect.Calls window.place 0) + result.left ≤ window.left }
-    ensures calls { IsBefore ReturnStackEffect.Calls window result }
-    ensures pushes { IsBefore ReturnStackEffect.Pushes window result }
+    ensures room { length (new_call_entry_at_window_start ReturnStackEffect.Calls window.place 0) + result.left ≤ window.left }
+    ensures calls { IsCallWindowBeforeStep ReturnStackEffect.Calls window result }
+    ensures pushes { IsCallWindowBeforeStep ReturnStackEffect.Pushes window result }
 {
     let Window { place, left } = window;
     if place == 0 {
@@ -139,7 +139,7 @@ fn before_pop(window: Window) -> Window
     requires within { window.place + window.left ≤ 9 }
     ensures within { result.place + result.left ≤ 9 }
     ensures room { result.left ≤ window.left }
-    ensures before { IsBefore ReturnStackEffect.Pops window result }
+    ensures before { IsCallWindowBeforeStep ReturnStackEffect.Pops window result }
 {
     let Window { place, left } = window;
     if place + left == 9 {
@@ -161,7 +161,7 @@ fn before_exchange(window: Window) -> Window
     requires within { window.place + window.left ≤ 9 }
     ensures within { result.place + result.left ≤ 9 }
     ensures room { result.left ≤ window.left }
-    ensures before { IsBefore ReturnStackEffect.Replaces window result }
+    ensures before { IsCallWindowBeforeStep ReturnStackEffect.Replaces window result }
 {
     let Window { place, left } = window;
     if place == 0 {
@@ -179,8 +179,8 @@ fn window_before(window: Window, shift: ReturnStackEffect) -> Window
     requires some { 0 < window.left }
     requires within { window.place + window.left ≤ 9 }
     ensures within { result.place + result.left ≤ 9 }
-    ensures room { length (put_first shift window.place 0) + result.left ≤ window.left }
-    ensures before { IsBefore shift window result }
+    ensures room { length (new_call_entry_at_window_start shift window.place 0) + result.left ≤ window.left }
+    ensures before { IsCallWindowBeforeStep shift window result }
 {
     match shift {
         ReturnStackEffect::Stays => window,
@@ -193,7 +193,7 @@ fn window_before(window: Window, shift: ReturnStackEffect) -> Window
 
 /// Whether a step put a call's entry at the first place of a window.
 fn puts_call(window: Window, shift: ReturnStackEffect) -> bool
-    ensures { result ≡ (is_calls shift && window.place == 0) }
+    ensures { result ≡ (is_call_return_stack_effect shift && window.place == 0) }
 {
     match shift {
         ReturnStackEffect::Calls => window.place == 0,
@@ -215,15 +215,15 @@ fn add_call(
     requires order { step - 1 ≤ walk.old.step }
     requires some { 0 < step }
     requires room { array_vec_len calls.old < 9 }
-    ensures calls { calls.new.items ≡ calls.old.items ++ map (open_call lab.now node) (put_first shift window.place step) }
-    ensures len { array_vec_len calls.new ≡ array_vec_len calls.old + length (put_first shift window.place 0) }
+    ensures calls { calls.new.items ≡ calls.old.items ++ map (open_call lab.now node) (new_call_entry_at_window_start shift window.place step) }
+    ensures len { array_vec_len calls.new ≡ array_vec_len calls.old + length (new_call_entry_at_window_start shift window.place 0) }
     ensures walk { walk.new ≡ node_at_step lab.now node walk.new.step }
     ensures order { step - 1 ≤ walk.new.step }
 {
     if !puts_call(window, shift) {
         return;
     }
-    let at = slot_address_at(lab, walk, node, step - 1);
+    let at = slot_address_of_walked_back_node(lab, walk, node, step - 1);
     calls.push(OpenCall { step, at });
 }
 
@@ -234,7 +234,7 @@ pub fn open_calls(lab: &Lab, node: NodeId) -> ArrayVec<OpenCall, RETURN_PLACES>
 {
     let mut calls = ArrayVec::new();
     let mut step = lab.steps(node);
-    let mut walk = lab.walk(node, step);
+    let mut walk = lab.walk_node_from_step(node, step);
     let mut window = Window { place: 0, left: 9 };
     'going: while step > 0 {
         if window.left == 0 {

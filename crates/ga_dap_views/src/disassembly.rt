@@ -4,19 +4,19 @@ ghost use Rattle.std.specs.Prelude.{◌≡◌, ◌<◌, ◌≤◌, ◌^◌, ◌+
 ghost use Rattle.std.specs.List.{range_with_len};
 ghost use Rattle.serde_json.specs.Data.{string, put as with_member};
 ghost use Rattle.serde_json.specs.View.{view, members_view};
-ghost use Rattle.ga_word.specs.Word.{hex6_of};
+ghost use Rattle.ga_word.specs.Word.{hex_digits_of_word};
 ghost use Rattle.ga_debug_info.specs.Source.{cell_of_address};
-ghost use Rattle.ga_slots.specs.Codes.{name_of};
+ghost use Rattle.ga_slots.specs.Codes.{name_of_opcode};
 ghost use Rattle.ga_dap_views.specs.Labels.{label_of_cell};
 ghost use Rattle.ga_dap_views.specs.Numbers.{chip_address};
 ghost use Rattle.ga_dap_views.specs.Variables.{memory_reference};
-ghost use Rattle.ga_dap_views.specs.Disassembly.{jump_target_text, has_address_operand, ends_instruction_word, slot_target_text, with_leading_blank, slots_text, is_data_in_source, instruction_text, with_source_line_members, with_label_member, instruction_members, instruction_object, invalid_instruction_object, cell_in_node, instruction_at, disassemble_body};
+ghost use Rattle.ga_dap_views.specs.Disassembly.{jump_target_text, has_address_operand, ends_instruction_word, slot_target_text, opcode_with_leading_blank, slots_text, is_data_in_source, instruction_text, members_with_source_line, members_with_label, instruction_members, instruction_object, invalid_instruction_object, cell_of_node_address, instruction_object_at, disassemble_response_body};
 
 use crate::frames::{SourceFile, source_object};
 use crate::json::object_with;
-use crate::labels::{add_label, label_of_cell, source_of_cell};
+use crate::labels::{add_label, debug_info_of_cell, label_of_cell};
 use crate::numbers::chip_address;
-use crate::spots::memory_cell;
+use crate::spots::memory_cell_of_address;
 use crate::texts::{add_hex3, add_hex6, address_text, text_with_number};
 use ga_debug_info::{CellSource, DebugInfo, LabelAddress};
 use ga_grid::NodeId;
@@ -51,7 +51,7 @@ fn ends_instruction_word(op: Op) -> bool
 fn target_label(notes: &DebugInfo, node: NodeId, address: u32) -> Option<&LabelAddress>
     ensures { option_map (λ name. name.now) result ≡ option_and_then (label_of_cell notes.now.names.items node) (cell_of_address address) }
 {
-    let cell = memory_cell(address)?;
+    let cell = memory_cell_of_address(address)?;
     label_of_cell(notes, node, cell)
 }
 
@@ -73,7 +73,7 @@ fn add_target(
 
 /// Adds the opcode of a slot, after a blank except for that of slot 0.
 fn add_op(text: &mut String, op: Op, slot: u8) -> Result<(), AllocError>
-    ensures { OnOk result (string_bytes text.new ≡ string_bytes text.old ++ with_leading_blank slot (name_of op)) }
+    ensures { OnOk result (string_bytes text.new ≡ string_bytes text.old ++ opcode_with_leading_blank slot (name_of_opcode op)) }
 {
     if slot > 0 {
         text.push_str(" ")?;
@@ -146,7 +146,7 @@ fn instruction_text(
 ) -> Result<String, AllocError>
     ensures { IfOk result (λ text. string_bytes text ≡ instruction_text notes.now node cell word) }
 {
-    if is_data_in_source(source_of_cell(notes, node, cell)) {
+    if is_data_in_source(debug_info_of_cell(notes, node, cell)) {
         return text_with_number(alloc, "word ", word.get());
     }
     let mut text = String::new(alloc);
@@ -163,7 +163,7 @@ fn instruction_text(
 
 /// A word in six hexadecimal digits.
 fn bytes_text(alloc: Global, word: Word18) -> Result<String, AllocError>
-    ensures { IfOk result (λ text. string_bytes text ≡ hex6_of word) }
+    ensures { IfOk result (λ text. string_bytes text ≡ hex_digits_of_word word) }
 {
     let mut text = String::new(alloc);
     add_hex6(&mut text, word.get())?;
@@ -189,7 +189,7 @@ fn put_line(
     file: SourceFile<'_>,
     note: Option<&CellSource>,
 ) -> Result<(), AllocError>
-    ensures { OnOk result (members_view members.new.entries ≡ with_source_line_members file.entry (option_map (λ one. one.now) note.entry) (members_view members.old.entries)) }
+    ensures { OnOk result (members_view members.new.entries ≡ members_with_source_line file.entry (option_map (λ one. one.now) note.entry) (members_view members.old.entries)) }
 {
     let Some(note) = note else {
         return Ok(());
@@ -205,7 +205,7 @@ fn put_label(
     members: &mut Map<String, Value>,
     name: Option<&LabelAddress>,
 ) -> Result<(), AllocError>
-    ensures { OnOk result (members_view members.new.entries ≡ with_label_member (option_map (λ one. one.now) name.entry) (members_view members.old.entries)) }
+    ensures { OnOk result (members_view members.new.entries ≡ members_with_label (option_map (λ one. one.now) name.entry) (members_view members.old.entries)) }
 {
     let Some(name) = name else {
         return Ok(());
@@ -225,7 +225,7 @@ fn instruction_members(
 ) -> Result<Map<String, Value>, AllocError>
     requires { address < 2 ^ 24 }
     ensures { IfOk result (λ members. members_view members.entries
-        ≡ instruction_members (memory_reference address) (instruction_text notes.now node cell word) (hex6_of word)) }
+        ≡ instruction_members (memory_reference address) (instruction_text notes.now node cell word) (hex_digits_of_word word)) }
 {
     let mut members = Map::new(alloc);
     let pointer = address_text(alloc, address)?;
@@ -252,7 +252,12 @@ fn instruction_object(
 {
     let word = lab.memory(node, cell);
     let mut members = instruction_members(alloc, notes, node, cell, word, address)?;
-    put_line(alloc, &mut members, file, source_of_cell(notes, node, cell))?;
+    put_line(
+        alloc,
+        &mut members,
+        file,
+        debug_info_of_cell(notes, node, cell),
+    )?;
     put_label(alloc, &mut members, label_of_cell(notes, node, cell))?;
     Ok(Value::Object(members))
 }
@@ -274,11 +279,11 @@ fn invalid_instruction_object(alloc: Global, address: u32) -> Result<Value, Allo
 }
 
 /// The cell that an address of a node names.
-fn cell_in_node(address: u32) -> Option<u8>
-    ensures { result ≡ cell_in_node address }
+fn cell_of_node_address(address: u32) -> Option<u8>
+    ensures { result ≡ cell_of_node_address address }
 {
     if address < 256 {
-        memory_cell(address)
+        memory_cell_of_address(address)
     } else {
         None
     }
@@ -294,7 +299,7 @@ fn address_in_node(node: NodeId, address: u32) -> u32
 }
 
 /// The instruction at an address of a node.
-fn instruction_at(
+fn instruction_object_at(
     alloc: Global,
     file: SourceFile<'_>,
     lab: &Lab,
@@ -303,10 +308,10 @@ fn instruction_at(
     address: u32,
 ) -> Result<Value, AllocError>
     requires { address < 4096 }
-    ensures { IfOk result (λ v. view v ≡ instruction_at file.entry notes.now lab.now node address) }
+    ensures { IfOk result (λ v. view v ≡ instruction_object_at file.entry notes.now lab.now node address) }
 {
     let pointer = address_in_node(node, address);
-    match cell_in_node(address) {
+    match cell_of_node_address(address) {
         Some(cell) => instruction_object(alloc, file, lab, notes, node, cell, pointer),
         None => invalid_instruction_object(alloc, pointer),
     }
@@ -324,11 +329,11 @@ fn instructions(
 ) -> Result<Vec<Value>, AllocError>
     requires { first ≤ end }
     ensures { IfOk result (λ list. map view list.items
-        ≡ map (λ k. instruction_at file.entry notes.now lab.now node (k % 4096)) (range_with_len first (end - first))) }
+        ≡ map (λ k. instruction_object_at file.entry notes.now lab.now node (k % 4096)) (range_with_len first (end - first))) }
 {
     let mut list = Vec::new(alloc);
     'cells: for address in first..end {
-        let value = instruction_at(alloc, file, lab, notes, node, address % 4096)?;
+        let value = instruction_object_at(alloc, file, lab, notes, node, address % 4096)?;
         push(&mut list, value)?;
     }
     Ok(list)
@@ -340,7 +345,7 @@ fn instructions(
 ///
 /// # Errors
 /// An allocation failed.
-pub fn disassemble_body(
+pub fn disassemble_response_body(
     alloc: Global,
     file: SourceFile<'_>,
     lab: &Lab,
@@ -350,7 +355,7 @@ pub fn disassemble_body(
     count: u32,
 ) -> Result<Value, AllocError>
     requires { first + count < 2 ^ 32 }
-    ensures { IfOk result (λ v. view v ≡ disassemble_body file.entry notes.now lab.now node first count) }
+    ensures { IfOk result (λ v. view v ≡ disassemble_response_body file.entry notes.now lab.now node first count) }
 {
     let list = instructions(alloc, file, lab, notes, node, first, first + count)?;
     object_with(alloc, "instructions", list)

@@ -1,9 +1,9 @@
 //! What a node does, as a person reads it.
 
 ghost use Rattle.std.specs.Prelude.{◌≡◌, ◌++◌, codes, string_bytes, IfOk, OnOk};
-ghost use Rattle.ga_node.specs.Record.{record_of};
-ghost use Rattle.ga_lab.specs.Machine.{chip_of};
-ghost use Rattle.ga_dap_views.specs.Activity.{side_name, append_side_name, side_names, stop_text, wait_activity_text, node_name_and_activity_text};
+ghost use Rattle.ga_node.specs.Record.{record_of_node};
+ghost use Rattle.ga_lab.specs.Machine.{chip_of_machine};
+ghost use Rattle.ga_dap_views.specs.Activity.{side_name, append_side_name, side_names, node_stop_text, wait_activity_text, node_name_and_activity_text};
 
 use crate::texts::add_node;
 use ga_grid::NodeId;
@@ -50,7 +50,7 @@ fn names_of(alloc: Global, sides: PortSet) -> Result<String, AllocError>
 }
 
 fn words_of_stop(stop: u8) -> &'static str
-    ensures { result.now ≡ stop_text stop }
+    ensures { result.now ≡ node_stop_text stop }
 {
     match stop {
         0 => "runs",
@@ -70,7 +70,7 @@ fn waiting(alloc: Global, before: &str, sides: PortSet) -> Result<String, AllocE
 
 /// What a node does.
 pub(crate) fn node_activity(alloc: Global, node: &Node) -> Result<String, AllocError>
-    ensures { IfOk result (λ text. string_bytes text ≡ wait_activity_text (record_of node.now).wait (record_of node.now).stop) }
+    ensures { IfOk result (λ text. string_bytes text ≡ wait_activity_text (record_of_node node.now).wait (record_of_node node.now).stop) }
 {
     match node.wait() {
         Wait::Nothing => String::from_str(alloc, words_of_stop(node.stop())),
@@ -90,7 +90,7 @@ pub fn thread_title(
     lab: &Lab,
     node: NodeId,
 ) -> Result<String, AllocError>
-    ensures { IfOk result (λ text. string_bytes text ≡ before.now ++ node_name_and_activity_text (chip_of lab.now) node.number) }
+    ensures { IfOk result (λ text. string_bytes text ≡ before.now ++ node_name_and_activity_text (chip_of_machine lab.now) node.number) }
 {
     let does = node_activity(alloc, lab.node(node))?;
     let mut text = String::from_str(alloc, before)?;

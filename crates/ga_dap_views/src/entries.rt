@@ -3,19 +3,19 @@
 ghost use Rattle.std.specs.Prelude.{◌≡◌, ◌<◌, ◌≤◌, map, IfSome};
 ghost use Rattle.std.specs.List.{range_with_len};
 ghost use Rattle.ga_event.specs.Told.{count_steps};
-ghost use Rattle.ga_dap_views.specs.Calls.{pushed_by_step, is_call_step, return_entry_sources};
-ghost use Rattle.ga_dap_views.specs.inner.{entry_before};
+ghost use Rattle.ga_dap_views.specs.Calls.{step_pushing_return_entry, is_call_step, previous_return_entry_indices};
+ghost use Rattle.ga_dap_views.specs.inner.{return_entry_index_before_effect};
 
 use crate::calls::{ReturnStackEffect, return_stack_effect};
 use ga_grid::NodeId;
-use ga_lab::{Lab, Made};
+use ga_lab::{Lab, MadeEvent};
 use ga_node::OwnEventKind;
 use ga_slots::Op;
 
 /// The place of an entry before a step, by its place after it.
-fn entry_before(shift: ReturnStackEffect, place: u8) -> Option<u8>
+fn return_entry_index_before_effect(shift: ReturnStackEffect, place: u8) -> Option<u8>
     requires { place < 9 }
-    ensures value { result ≡ entry_before shift place }
+    ensures value { result ≡ return_entry_index_before_effect shift place }
     ensures in_range { IfSome result (λ from. from < 9) }
 {
     match shift {
@@ -29,46 +29,46 @@ fn entry_before(shift: ReturnStackEffect, place: u8) -> Option<u8>
 
 /// The place of each entry before a shift; none if it is new, or a copy in the last place.
 fn entries_before(shift: ReturnStackEffect) -> [Option<u8>; 9]
-    ensures { result ≡ map (entry_before shift) (range_with_len 0 9) }
+    ensures { result ≡ map (return_entry_index_before_effect shift) (range_with_len 0 9) }
 {
     [
-        entry_before(shift, 0),
-        entry_before(shift, 1),
-        entry_before(shift, 2),
-        entry_before(shift, 3),
-        entry_before(shift, 4),
-        entry_before(shift, 5),
-        entry_before(shift, 6),
-        entry_before(shift, 7),
-        entry_before(shift, 8),
+        return_entry_index_before_effect(shift, 0),
+        return_entry_index_before_effect(shift, 1),
+        return_entry_index_before_effect(shift, 2),
+        return_entry_index_before_effect(shift, 3),
+        return_entry_index_before_effect(shift, 4),
+        return_entry_index_before_effect(shift, 5),
+        return_entry_index_before_effect(shift, 6),
+        return_entry_index_before_effect(shift, 7),
+        return_entry_index_before_effect(shift, 8),
     ]
 }
 
 /// For each place of the return stack, the place that its entry after a node's next step had before it, where the node had made
 /// `step` steps; none if the step put it there.
 #[tactic(auto, using(crate::proofs::Putting::entries_so))]
-pub fn return_entry_sources(lab: &Lab, node: NodeId, step: u32) -> [Option<u8>; 9]
+pub fn previous_return_entry_indices(lab: &Lab, node: NodeId, step: u32) -> [Option<u8>; 9]
     requires { step ≤ count_steps node.number lab.now.kept }
-    ensures { result ≡ return_entry_sources lab.now node step }
+    ensures { result ≡ previous_return_entry_indices lab.now node step }
 {
-    let mut walk = lab.walk(node, step);
+    let mut walk = lab.walk_node_from_step(node, step);
     entries_before(return_stack_effect(lab, &mut walk, node, step))
 }
 
 /// The number of the step that put the entry at a place of the return stack after `step` steps of a node; 0 if it was there at
 /// load. Takes time linear in the number of steps that the node made since.
-pub fn pushed_by_step(lab: &Lab, node: NodeId, step: u32, behind: u8) -> u32
+pub fn step_pushing_return_entry(lab: &Lab, node: NodeId, step: u32, behind: u8) -> u32
     requires step { step ≤ count_steps node.number lab.now.kept }
     requires place { behind < 9 }
-    ensures value { result ≡ pushed_by_step lab.now node step behind }
+    ensures value { result ≡ step_pushing_return_entry lab.now node step behind }
     ensures within { result ≤ step }
 {
-    let mut walk = lab.walk(node, step);
+    let mut walk = lab.walk_node_from_step(node, step);
     let mut left = step;
     let mut place = behind;
     'following: while left > 0 {
         let shift = return_stack_effect(lab, &mut walk, node, left - 1);
-        match entry_before(shift, place) {
+        match return_entry_index_before_effect(shift, place) {
             Some(from) => place = from,
             None => return left,
         }
@@ -86,7 +86,7 @@ pub fn is_call_step(lab: &Lab, node: NodeId, step: u32) -> bool
     }
     match lab.made_event_of_step(node, step - 1) {
         Some(
-            Made::Own {
+            MadeEvent::Own {
                 kind: OwnEventKind::Run(code),
                 ..
             },

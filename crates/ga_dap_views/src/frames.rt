@@ -5,13 +5,13 @@ ghost use Rattle.std.specs.List.{range_with_len, slice_get};
 ghost use Rattle.serde_json.specs.Data.{array};
 ghost use Rattle.serde_json.specs.View.{view, items_view};
 ghost use Rattle.ga_dap_views.specs.Calls.{open_calls};
-ghost use Rattle.ga_dap_views.specs.Frames.{source_object, frame_object_with_line, frame_object_without_source, frame_object_outside_memory, location_text, frame_name, frame_object_in_memory, frame_object, call_slot_address, frame_slot_address, stack_object, stack_trace};
-ghost use Rattle.ga_dap_views.specs.Variables.{memory_reference, requested_range};
+ghost use Rattle.ga_dap_views.specs.Frames.{source_object, frame_object_with_line, frame_object_without_source, frame_object_outside_memory, frame_location_text, frame_name, frame_object_in_memory, frame_object, slot_address_of_open_call, frame_slot_address, stack_frames_object, stack_trace_body};
+ghost use Rattle.ga_dap_views.specs.Variables.{memory_reference, requested_index_range};
 
 use crate::calls::{OpenCall, open_calls};
 use crate::labels::{add_cell, source_word_of_slot};
 use crate::numbers::{chip_address, frame_id};
-use crate::spots::{SlotAddress, slot_address_after};
+use crate::spots::{SlotAddress, slot_address_after_steps};
 use crate::texts::{add_node, address_text};
 use ga_debug_info::{DebugInfo, SlotWord};
 use ga_grid::NodeId;
@@ -79,7 +79,7 @@ fn add_place(
     node: NodeId,
     spot: Option<SlotAddress>,
 ) -> Result<(), AllocError>
-    ensures { OnOk result (string_bytes text.new ≡ string_bytes text.old ++ location_text notes.now node spot) }
+    ensures { OnOk result (string_bytes text.new ≡ string_bytes text.old ++ frame_location_text notes.now node spot) }
 {
     match spot {
         Some(spot) => add_cell(alloc, text, notes, node, spot.cell),
@@ -155,8 +155,8 @@ fn frame_object(
 }
 
 /// The position of a call, of those in a list.
-fn call_slot_address(calls: &[OpenCall], place: u8) -> Option<SlotAddress>
-    ensures { result ≡ call_slot_address (slice_get calls.now place) }
+fn slot_address_of_open_call(calls: &[OpenCall], place: u8) -> Option<SlotAddress>
+    ensures { result ≡ slot_address_of_open_call (slice_get calls.now place) }
 {
     match calls.get(usize::from(place)) {
         Some(call) => call.at,
@@ -170,9 +170,9 @@ fn frame_slot_address(lab: &Lab, node: NodeId, calls: &[OpenCall], level: u8) ->
     ensures { result ≡ frame_slot_address lab.now node level }
 {
     if level == 0 {
-        return slot_address_after(lab, node, lab.steps(node));
+        return slot_address_after_steps(lab, node, lab.steps(node));
     }
-    call_slot_address(calls, level - 1)
+    slot_address_of_open_call(calls, level - 1)
 }
 
 /// The frames from one level on and before another.
@@ -201,9 +201,9 @@ fn frames(
     Ok(list)
 }
 
-#[tactic(auto, unfolding(crate::specs::Frames::stack_object))]
-fn stack_object(alloc: Global, frames: Vec<Value>, total: u64) -> Result<Value, AllocError>
-    ensures { IfOk result (λ v. view v ≡ stack_object (array (items_view frames.items)) total) }
+#[tactic(auto, unfolding(crate::specs::Frames::stack_frames_object))]
+fn stack_frames_object(alloc: Global, frames: Vec<Value>, total: u64) -> Result<Value, AllocError>
+    ensures { IfOk result (λ v. view v ≡ stack_frames_object (array (items_view frames.items)) total) }
 {
     let frames = Value::Array(frames);
     json!(in alloc; {"stackFrames": frames, "totalFrames": total})
@@ -221,7 +221,7 @@ fn many_asked(left: u64, count: u64) -> u64
 #[tactic(auto, using(crate::proofs::Lists::places_so))]
 fn levels_asked(total: u64, start: u64, count: u64) -> (u8, u8)
     requires { total ≤ 16 }
-    ensures places { range_with_len result.0 (result.1 - result.0) ≡ requested_range total start count }
+    ensures places { range_with_len result.0 (result.1 - result.0) ≡ requested_index_range total start count }
     ensures order { result.0 ≤ result.1 }
     ensures within { result.1 ≤ total }
 {
@@ -244,12 +244,12 @@ fn stack_body(
 ) -> Result<Value, AllocError>
     requires calls { calls.now ≡ open_calls lab.now node }
     requires few { length calls.now ≤ 9 }
-    ensures { IfOk result (λ v. view v ≡ stack_trace file.entry notes.now lab.now node start count) }
+    ensures { IfOk result (λ v. view v ≡ stack_trace_body file.entry notes.now lab.now node start count) }
 {
     let total = calls.len() as u64 + 1;
     let levels = levels_asked(total, start, count);
     let list = frames(alloc, file, lab, notes, node, calls, levels.0, levels.1)?;
-    stack_object(alloc, list, total)
+    stack_frames_object(alloc, list, total)
 }
 
 /// The body of the response to `stackTrace` (Debug Adapter Protocol, "StackTraceRequest") for a node: `count` frames from one
@@ -258,7 +258,7 @@ fn stack_body(
 ///
 /// # Errors
 /// An allocation failed.
-pub fn stack_trace(
+pub fn stack_trace_body(
     alloc: Global,
     file: SourceFile<'_>,
     lab: &Lab,
@@ -267,7 +267,7 @@ pub fn stack_trace(
     start: u64,
     count: u64,
 ) -> Result<Value, AllocError>
-    ensures { IfOk result (λ v. view v ≡ stack_trace file.entry notes.now lab.now node start count) }
+    ensures { IfOk result (λ v. view v ≡ stack_trace_body file.entry notes.now lab.now node start count) }
 {
     let calls = open_calls(lab, node);
     stack_body(

@@ -3,17 +3,17 @@
 ghost use Rattle.std.specs.Prelude.{◌≡◌, ◌++◌, ◌/◌, ◌*◌, ◌%◌, position, option_map, string_bytes, OnOk};
 ghost use Rattle.std.specs.Str.Lossy.{utf8_lossy};
 ghost use Rattle.ga_debug_info.specs.Notes.{is_source_of_cell};
-ghost use Rattle.ga_debug_info.specs.Source.{nearest_result};
-ghost use Rattle.ga_dap_views.specs.Labels.{is_label_cell, is_label_at, label_place_of_cell, label_of_cell, nearest_label, label_distance_text, cell_location_text, source_of_cell, source_word_of_slot, source_line_of_slot, is_code_word_on_line, line_start_word};
+ghost use Rattle.ga_debug_info.specs.Source.{result_at_nearest_place};
+ghost use Rattle.ga_dap_views.specs.Labels.{is_cell_of_label, is_label_at_cell, label_index_of_cell, label_of_cell, nearest_label, label_distance_text, cell_location_text, debug_info_of_cell, source_word_of_slot, source_line_of_slot, is_code_word_on_line, first_code_word_of_line};
 
-use crate::spots::{SlotAddress, memory_cell};
+use crate::spots::{SlotAddress, memory_cell_of_address};
 use crate::texts::add_hex2;
 use ga_debug_info::{CellSource, DebugInfo, DisplayedWord, LabelAddress, SlotWord};
 use ga_grid::NodeId;
 use std::alloc::{AllocError, Global};
 
-fn is_label_cell(cell: u8, found: Option<u8>) -> bool
-    ensures { result ≡ is_label_cell cell found }
+fn is_cell_of_label(cell: u8, found: Option<u8>) -> bool
+    ensures { result ≡ is_cell_of_label cell found }
 {
     match found {
         Some(found) => found == cell,
@@ -22,38 +22,40 @@ fn is_label_cell(cell: u8, found: Option<u8>) -> bool
 }
 
 /// Whether a label of the node is at the cell.
-fn is_label_at(name: &LabelAddress, node: NodeId, cell: u8) -> bool
-    ensures { result ≡ is_label_at node cell name.now }
+fn is_label_at_cell(name: &LabelAddress, node: NodeId, cell: u8) -> bool
+    ensures { result ≡ is_label_at_cell node cell name.now }
 {
-    name.node == node && is_label_cell(cell, memory_cell(name.address))
+    name.node == node && is_cell_of_label(cell, memory_cell_of_address(name.address))
 }
 
-fn label_place_of_cell(names: &[LabelAddress], node: NodeId, cell: u8) -> Option<usize>
-    ensures { result ≡ label_place_of_cell names.now node cell }
+fn label_index_of_cell(names: &[LabelAddress], node: NodeId, cell: u8) -> Option<usize>
+    ensures { result ≡ label_index_of_cell names.now node cell }
 {
-    names.iter().position(|name| is_label_at(name, node, cell))
+    names
+        .iter()
+        .position(|name| is_label_at_cell(name, node, cell))
 }
 
 /// The place of the label at a cell, or of the nearest before it in the same memory.
 fn place_near(names: &[LabelAddress], node: NodeId, cell: u8) -> Option<usize>
-    ensures { result ≡ nearest_result (label_place_of_cell names.now node) (cell / 64 * 64) (cell % 64) }
+    ensures { result ≡ result_at_nearest_place (label_index_of_cell names.now node) (cell / 64 * 64) (cell % 64) }
 {
     let first = cell / 64 * 64;
     let mut behind = cell % 64;
     'looking: while behind > 0 {
-        match label_place_of_cell(names, node, first + behind) {
+        match label_index_of_cell(names, node, first + behind) {
             Some(place) => return Some(place),
             None => behind -= 1,
         }
     }
-    label_place_of_cell(names, node, first)
+    label_index_of_cell(names, node, first)
 }
 
 /// The label at a cell.
 pub(crate) fn label_of_cell(notes: &DebugInfo, node: NodeId, cell: u8) -> Option<&LabelAddress>
     ensures { option_map (λ name. name.now) result ≡ label_of_cell notes.now.names.items node cell }
 {
-    let place = label_place_of_cell(notes.names.as_slice(), node, cell)?;
+    let place = label_index_of_cell(notes.names.as_slice(), node, cell)?;
     notes.names.get(place)
 }
 
@@ -103,15 +105,15 @@ pub(crate) fn add_cell(
             add_label(alloc, text, name)?;
             add_behind(
                 text,
-                cell.saturating_sub(memory_cell(name.address).unwrap_or(cell)),
+                cell.saturating_sub(memory_cell_of_address(name.address).unwrap_or(cell)),
             )
         }
     }
 }
 
 /// The note of the source for a cell.
-pub(crate) fn source_of_cell(notes: &DebugInfo, node: NodeId, cell: u8) -> Option<&CellSource>
-    ensures { option_map (λ note. note.now) result ≡ source_of_cell notes.now node cell }
+pub(crate) fn debug_info_of_cell(notes: &DebugInfo, node: NodeId, cell: u8) -> Option<&CellSource>
+    ensures { option_map (λ note. note.now) result ≡ debug_info_of_cell notes.now node cell }
 {
     let place = place_of_note(notes.notes.as_slice(), node, cell)?;
     notes.notes.get(place)
@@ -147,8 +149,8 @@ pub fn source_line_of_slot(notes: &DebugInfo, node: NodeId, spot: SlotAddress) -
 }
 
 /// The first word of a line from which a slot of an instruction word of the node comes.
-pub fn line_start_word(notes: &DebugInfo, node: NodeId, line: u32) -> Option<SlotWord>
-    ensures { result ≡ line_start_word notes.now node line }
+pub fn first_code_word_of_line(notes: &DebugInfo, node: NodeId, line: u32) -> Option<SlotWord>
+    ensures { result ≡ first_code_word_of_line notes.now node line }
 {
     let place = place_on_line(notes.words.as_slice(), node, line)?;
     match notes.words.get(place) {

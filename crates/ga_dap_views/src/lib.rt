@@ -18,18 +18,21 @@ mod values;
 mod variable;
 
 pub use calls::{OpenCall, open_calls};
-pub use disassembly::disassemble_body;
+pub use disassembly::disassemble_response_body;
 pub use doing::thread_title;
-pub use entries::{is_call_step, pushed_by_step, return_entry_sources};
-pub use frames::{SourceFile, stack_trace};
-pub use labels::{line_start_word, source_line_of_slot};
-pub use listing::{scopes, variables};
+pub use entries::{is_call_step, previous_return_entry_indices, step_pushing_return_entry};
+pub use frames::{SourceFile, stack_trace_body};
+pub use labels::{first_code_word_of_line, source_line_of_slot};
+pub use listing::{make_scopes_body, make_variables_body};
 pub use numbers::{
-    cell_at_chip_address, chip_address, frame_id, node_of_frame, node_of_thread, resolve_reference,
-    thread_id, variables_reference,
+    cell_at_chip_address, chip_address, frame_id, node_of_frame, node_of_thread,
+    resolve_variables_reference, thread_id, variables_reference,
 };
 pub use scope::Scope;
-pub use spots::{SlotAddress, memory_cell, slot_address_after, slot_address_at, slot_and_p};
-pub use thread::{has_thread, threads};
+pub use spots::{
+    SlotAddress, memory_cell_of_address, next_slot_and_p, slot_address_after_steps,
+    slot_address_of_walked_back_node,
+};
+pub use thread::{has_thread, make_threads_body};
 pub use values::json_value_of_variable;
-pub use variable::{Variable, count_variables, variable_name, variable_of};
+pub use variable::{Variable, count_variables, find_variable_at_index, variable_name};

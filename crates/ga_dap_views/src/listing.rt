@@ -3,7 +3,7 @@
 ghost use Rattle.std.specs.Prelude.{◌≡◌, true, false, ◌<◌, ◌+◌, ◌-◌, ◌^◌, ◌≤◌, ℕ, IfOk, map, length, string_bytes};
 ghost use Rattle.std.specs.List.{range_with_len};
 ghost use Rattle.serde_json.specs.View.{view};
-ghost use Rattle.ga_dap_views.specs.Shown.{IsVariable, variable_at, variable_count};
+ghost use Rattle.ga_dap_views.specs.Shown.{IsNodeVariable, scope_variable_at_index, variable_count};
 ghost use Rattle.ga_dap_views.specs.Variables.{scope_name, scope_object, is_memory_scope, node_scope_object, all_scopes, scopes_body, variable_object, cell_object, variable_or_cell_object, variable_value_object, variables_body};
 
 use crate::json::object_with;
@@ -11,7 +11,7 @@ use crate::numbers::{chip_address, variables_reference};
 use crate::scope::Scope;
 use crate::texts::address_text;
 use crate::values::json_value_of_variable;
-use crate::variable::{Variable, count_variables, variable_name, variable_of};
+use crate::variable::{Variable, count_variables, find_variable_at_index, variable_name};
 use ga_grid::NodeId;
 use ga_lab::Lab;
 use serde_json::{Value, json, push};
@@ -20,8 +20,8 @@ use std::alloc::{AllocError, Global};
 /// The scopes, in order.
 const SCOPES: [Scope; 6] = [
     Scope::Registers,
-    Scope::Data,
-    Scope::Returns,
+    Scope::DataStackScope,
+    Scope::ReturnStackScope,
     Scope::Links,
     Scope::Ram,
     Scope::Rom,
@@ -32,8 +32,8 @@ fn name_of_scope(scope: Scope) -> &'static str
 {
     match scope {
         Scope::Registers => "Registers",
-        Scope::Data => "Data stack",
-        Scope::Returns => "Return stack",
+        Scope::DataStackScope => "Data stack",
+        Scope::ReturnStackScope => "Return stack",
         Scope::Links => "Links",
         Scope::Ram => "RAM",
         Scope::Rom => "ROM",
@@ -87,7 +87,7 @@ fn all_of(alloc: Global, node: NodeId) -> Result<Vec<Value>, AllocError>
 ///
 /// # Errors
 /// An allocation failed.
-pub fn scopes(alloc: Global, node: NodeId) -> Result<Value, AllocError>
+pub fn make_scopes_body(alloc: Global, node: NodeId) -> Result<Value, AllocError>
     ensures { IfOk result (λ v. view v ≡ scopes_body node.number) }
 {
     let list = all_of(alloc, node)?;
@@ -120,7 +120,7 @@ fn variable(
     node: NodeId,
     variable: Variable,
 ) -> Result<Value, AllocError>
-    requires { IsVariable variable }
+    requires { IsNodeVariable variable }
     ensures { IfOk result (λ v. view v ≡ variable_value_object lab.now stuck node.number variable) }
 {
     let name = variable_name(alloc, variable)?;
@@ -150,11 +150,11 @@ fn between(
     requires order { first ≤ end }
     requires within { end ≤ variable_count at.1 }
     ensures { IfOk result (λ list. map view list.items
-        ≡ map (λ k. variable_value_object lab.now stuck at.0.number (variable_at at.1 k)) (range_with_len first (end - first))) }
+        ≡ map (λ k. variable_value_object lab.now stuck at.0.number (scope_variable_at_index at.1 k)) (range_with_len first (end - first))) }
 {
     let mut list = Vec::new(alloc);
     'places: for place in first..end {
-        let value = variable(alloc, lab, stuck, at.0, variable_of(at.1, place))?;
+        let value = variable(alloc, lab, stuck, at.0, find_variable_at_index(at.1, place))?;
         push(&mut list, value)?;
     }
     Ok(list)
@@ -165,7 +165,7 @@ fn between(
 ///
 /// # Errors
 /// An allocation failed.
-pub fn variables(
+pub fn make_variables_body(
     alloc: Global,
     lab: &Lab,
     stuck: bool,

@@ -6,9 +6,9 @@ pub enum Scope {
     /// Registers, and what the node does.
     Registers,
     /// The data stack.
-    Data,
+    DataStackScope,
     /// The return stack.
-    Returns,
+    ReturnStackScope,
     /// The neighbours, and whether the node is deadlocked.
     Links,
     /// The cells of RAM.

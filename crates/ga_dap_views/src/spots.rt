@@ -1,15 +1,15 @@
 //! The position of a node.
 
 ghost use Rattle.std.specs.Prelude.{◌≡◌, ◌≤◌, option_map};
-ghost use Rattle.ga_node.specs.Record.{record_of};
+ghost use Rattle.ga_node.specs.Record.{record_of_node};
 ghost use Rattle.ga_event.specs.Told.{count_steps};
 ghost use Rattle.ga_lab.specs.Machine.{node_at_step};
 ghost use Rattle.ga_debug_info.specs.Source.{cell_of_address};
-ghost use Rattle.ga_dap_views.specs.Spots.{slot_address, slot_address_after};
+ghost use Rattle.ga_dap_views.specs.Spots.{slot_address, slot_address_after_steps};
 
 use ga_grid::NodeId;
 use ga_lab::{Lab, NodeWalk};
-use ga_node::{Node, Place};
+use ga_node::{Node, NodePlace};
 use ga_ports::{AddressTarget, classify_address};
 use ga_provenance::fetched_cell_at;
 
@@ -23,7 +23,7 @@ pub struct SlotAddress {
 }
 
 /// The cell of memory that an address names: of ROM from 128 on.
-pub fn memory_cell(address: u32) -> Option<u8>
+pub fn memory_cell_of_address(address: u32) -> Option<u8>
     ensures { result ≡ cell_of_address address }
 {
     match classify_address(address) {
@@ -34,22 +34,22 @@ pub fn memory_cell(address: u32) -> Option<u8>
 }
 
 /// The slot that comes next in a node, 4 where a fetch is due, and P.
-#[tactic(auto, unfolding(ga_node::specs::Record::record_of))]
-pub fn slot_and_p(node: &Node) -> (u8, u32)
-    ensures slot { result.0 ≡ (record_of node.now).slot }
-    ensures p { result.1 ≡ (record_of node.now).p }
+#[tactic(auto, unfolding(ga_node::specs::Record::record_of_node))]
+pub fn next_slot_and_p(node: &Node) -> (u8, u32)
+    ensures slot { result.0 ≡ (record_of_node node.now).slot }
+    ensures p { result.1 ≡ (record_of_node node.now).p }
 {
-    (node.get(Place::Slot) as u8, node.get(Place::P))
+    (node.get(NodePlace::Slot) as u8, node.get(NodePlace::P))
 }
 
 /// The position of a node at the step of a walk of it. Takes time linear in the number of steps that it made since the fetch of
 /// its instruction word.
 fn spot_at(lab: &Lab, walk: &NodeWalk<'_>, node: NodeId) -> Option<SlotAddress>
     requires { walk.now ≡ node_at_step lab.now node walk.now.step }
-    ensures { result ≡ slot_address_after lab.now node walk.now.step }
+    ensures { result ≡ slot_address_after_steps lab.now node walk.now.step }
 {
     let step = walk.step();
-    let (slot, p) = slot_and_p(walk.node());
+    let (slot, p) = next_slot_and_p(walk.node());
     if slot == 4 {
         return due_spot(p);
     }
@@ -63,14 +63,14 @@ fn spot_at(lab: &Lab, walk: &NodeWalk<'_>, node: NodeId) -> Option<SlotAddress>
 fn due_spot(p: u32) -> Option<SlotAddress>
     ensures { result ≡ option_map (slot_address 0) (cell_of_address p) }
 {
-    match memory_cell(p) {
+    match memory_cell_of_address(p) {
         Some(cell) => Some(SlotAddress { cell, slot: 0 }),
         None => None,
     }
 }
 
 /// The position of a node after `step` of its steps, to which it is walked back.
-pub fn slot_address_at(
+pub fn slot_address_of_walked_back_node(
     lab: &Lab,
     walk: &mut NodeWalk<'_>,
     node: NodeId,
@@ -78,7 +78,7 @@ pub fn slot_address_at(
 ) -> Option<SlotAddress>
     requires walk { walk.old ≡ node_at_step lab.now node walk.old.step }
     requires order { step ≤ walk.old.step }
-    ensures spot { result ≡ slot_address_after lab.now node step }
+    ensures spot { result ≡ slot_address_after_steps lab.now node step }
     ensures walk { walk.new ≡ node_at_step lab.now node step }
 {
     walk.walk_back_to(step);
@@ -88,9 +88,9 @@ pub fn slot_address_at(
 /// The position of a node after `step` of its steps: the slot that it carried out next, or that of the cell that it fetched
 /// next. None if its code was in no memory. Takes time linear in the number of steps that the node made since, or since the
 /// fetch before.
-pub fn slot_address_after(lab: &Lab, node: NodeId, step: u32) -> Option<SlotAddress>
+pub fn slot_address_after_steps(lab: &Lab, node: NodeId, step: u32) -> Option<SlotAddress>
     requires { step ≤ count_steps node.number lab.now.kept }
-    ensures { result ≡ slot_address_after lab.now node step }
+    ensures { result ≡ slot_address_after_steps lab.now node step }
 {
-    spot_at(lab, &lab.walk(node, step), node)
+    spot_at(lab, &lab.walk_node_from_step(node, step), node)
 }

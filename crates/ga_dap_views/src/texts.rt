@@ -2,10 +2,10 @@
 
 ghost use Rattle.std.specs.Prelude.{◌≡◌, ◌<◌, ◌^◌, ◌+◌, ◌++◌, ◌∷◌, [], codes, decimal, slice_index, string_bytes, IfOk, OnOk};
 ghost use Rattle.hex.specs.Hex.{lower_digits};
-ghost use Rattle.ga_word.specs.Word.{hex6_of};
-ghost use Rattle.ga_grid.specs.Grid.{yxx_of};
-ghost use Rattle.ga_text.specs.Digits.{decimal3_of, hex2_of};
-ghost use Rattle.ga_dap_views.specs.Activity.{negative_word_text, word_value_text};
+ghost use Rattle.ga_word.specs.Word.{hex_digits_of_word};
+ghost use Rattle.ga_grid.specs.Grid.{decimal_name_of_node};
+ghost use Rattle.ga_text.specs.Digits.{three_decimal_digits, two_hex_digits_text};
+ghost use Rattle.ga_dap_views.specs.Activity.{negative_value_suffix_text, word_value_text};
 ghost use Rattle.ga_dap_views.specs.Variables.{memory_reference};
 ghost use Rattle.ga_dap_views.specs.Disassembly.{three_hex_digits};
 
@@ -40,17 +40,17 @@ fn digit(value: u32) -> &'static str
 
 /// Adds the name of a node.
 pub(crate) fn add_node(text: &mut String, node: NodeId) -> Result<(), AllocError>
-    ensures { OnOk result (string_bytes text.new ≡ string_bytes text.old ++ decimal3_of (yxx_of node.number)) }
+    ensures { OnOk result (string_bytes text.new ≡ string_bytes text.old ++ three_decimal_digits (decimal_name_of_node node.number)) }
 {
-    let yxx = node.yxx();
-    text.push_str(digit(yxx / 100))?;
-    text.push_str(digit(yxx / 10 % 10))?;
-    text.push_str(digit(yxx % 10))
+    let decimal_name = node.decimal_name();
+    text.push_str(digit(decimal_name / 100))?;
+    text.push_str(digit(decimal_name / 10 % 10))?;
+    text.push_str(digit(decimal_name % 10))
 }
 
 /// Adds two hexadecimal digits.
 pub(crate) fn add_hex2(text: &mut String, byte: u8) -> Result<(), AllocError>
-    ensures { OnOk result (string_bytes text.new ≡ string_bytes text.old ++ hex2_of byte) }
+    ensures { OnOk result (string_bytes text.new ≡ string_bytes text.old ++ two_hex_digits_text byte) }
 {
     let value = u32::from(byte);
     text.push_str(digit(value / 16 % 16))?;
@@ -59,7 +59,7 @@ pub(crate) fn add_hex2(text: &mut String, byte: u8) -> Result<(), AllocError>
 
 /// Adds six hexadecimal digits.
 pub(crate) fn add_hex6(text: &mut String, value: u32) -> Result<(), AllocError>
-    ensures { OnOk result (string_bytes text.new ≡ string_bytes text.old ++ hex6_of value) }
+    ensures { OnOk result (string_bytes text.new ≡ string_bytes text.old ++ hex_digits_of_word value) }
 {
     text.push_str(digit(value / 1_048_576 % 16))?;
     text.push_str(digit(value / 65536 % 16))?;
@@ -95,7 +95,7 @@ pub(crate) fn word_text(alloc: Global, word: u32) -> Result<String, AllocError>
 /// Adds the negative number of a word, where its highest bit is set.
 fn add_negative(text: &mut String, word: u32) -> Result<(), AllocError>
     requires { word < 2 ^ 18 }
-    ensures { OnOk result (string_bytes text.new ≡ string_bytes text.old ++ negative_word_text word) }
+    ensures { OnOk result (string_bytes text.new ≡ string_bytes text.old ++ negative_value_suffix_text word) }
 {
     if word < 0x20000 {
         Ok(())
@@ -123,7 +123,7 @@ pub(crate) fn address_text(alloc: Global, address: u32) -> Result<String, AllocE
 
 /// The name of a cell, by which a client requests it.
 pub(crate) fn cell_name(alloc: Global, address: u8) -> Result<String, AllocError>
-    ensures { IfOk result (λ text. string_bytes text ≡ codes "[" ++ hex2_of address ++ codes "]") }
+    ensures { IfOk result (λ text. string_bytes text ≡ codes "[" ++ two_hex_digits_text address ++ codes "]") }
 {
     let mut text = String::from_str(alloc, "[")?;
     add_hex2(&mut text, address)?;

@@ -3,16 +3,16 @@
 ghost use Rattle.std.specs.Prelude.{◌≡◌, ◌++◌, ◌∷◌, [], IfOk, OnOk, map, filter};
 ghost use Rattle.serde_json.specs.View.{view};
 ghost use Rattle.ga_ports.specs.Address.{address_target};
-ghost use Rattle.ga_node.specs.Record.{record_of};
-ghost use Rattle.ga_dap_views.specs.Json.{json_array_of, json_object_of_member};
-ghost use Rattle.ga_dap_views.specs.Threads.{named_thread_object, node_thread_object, has_thread, is_in_memory, is_among_nodes, nodes_with_threads, threads_body};
+ghost use Rattle.ga_node.specs.Record.{record_of_node};
+ghost use Rattle.ga_dap_views.specs.Json.{json_array_of_mapped_items, json_object_of_member};
+ghost use Rattle.ga_dap_views.specs.Threads.{named_thread_object, node_thread_object, has_thread, is_target_in_memory, is_among_nodes, nodes_with_threads, threads_body};
 
 use crate::doing::thread_title;
 use crate::json::object_with;
 use crate::numbers::thread_id;
 use ga_grid::NodeId;
 use ga_lab::Lab;
-use ga_node::{Node, Place};
+use ga_node::{Node, NodePlace};
 use ga_ports::{AddressTarget, classify_address};
 use serde_json::{Value, json, push};
 use std::alloc::{AllocError, Global};
@@ -34,11 +34,11 @@ fn thread(alloc: Global, lab: &Lab, node: NodeId) -> Result<Value, AllocError>
 }
 
 /// Whether a node's P names a cell of memory.
-#[tactic(auto, unfolding(ga_node::specs::Record::record_of))]
-fn is_in_memory(node: &Node) -> bool
-    ensures { result ≡ is_in_memory (address_target (record_of node.now).p) }
+#[tactic(auto, unfolding(ga_node::specs::Record::record_of_node))]
+fn is_target_in_memory(node: &Node) -> bool
+    ensures { result ≡ is_target_in_memory (address_target (record_of_node node.now).p) }
 {
-    match classify_address(node.get(Place::P)) {
+    match classify_address(node.get(NodePlace::P)) {
         AddressTarget::Ram(_) => true,
         AddressTarget::Rom(_) => true,
         _ => false,
@@ -56,7 +56,7 @@ fn is_among(nodes: &[NodeId], node: NodeId) -> bool
 pub fn has_thread(lab: &Lab, programs: &[NodeId], node: NodeId) -> bool
     ensures { result ≡ has_thread lab.now programs.now node.number }
 {
-    is_among(programs, node) || lab.steps(node) > 1 || is_in_memory(lab.node(node))
+    is_among(programs, node) || lab.steps(node) > 1 || is_target_in_memory(lab.node(node))
 }
 
 /// Adds the thread of a node, where that has something to show.
@@ -93,7 +93,7 @@ fn shown(alloc: Global, lab: &Lab, programs: &[NodeId]) -> Result<Vec<Value>, Al
 ///
 /// # Errors
 /// An allocation failed.
-pub fn threads(alloc: Global, lab: &Lab, programs: &[NodeId]) -> Result<Value, AllocError>
+pub fn make_threads_body(alloc: Global, lab: &Lab, programs: &[NodeId]) -> Result<Value, AllocError>
     ensures { IfOk result (λ v. view v ≡ threads_body lab.now programs.now) }
 {
     let list = shown(alloc, lab, programs)?;

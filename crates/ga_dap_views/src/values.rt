@@ -1,23 +1,23 @@
 //! The values of what a node holds, as a person reads them.
 
 ghost use Rattle.std.specs.Prelude.{◌≡◌, ◌≤◌, IfOk, string_bytes};
-ghost use Rattle.ga_node.specs.Record.{record_of};
-ghost use Rattle.ga_grid.specs.Grid.{neighbour_of};
-ghost use Rattle.ga_lab.specs.Machine.{chip_of};
-ghost use Rattle.ga_dap_views.specs.Shown.{IsVariable};
-ghost use Rattle.ga_dap_views.specs.Variables.{slot_state_text, neighbour_text, deadlock_text, variable_value};
+ghost use Rattle.ga_node.specs.Record.{record_of_node};
+ghost use Rattle.ga_grid.specs.Grid.{neighbour_number};
+ghost use Rattle.ga_lab.specs.Machine.{chip_of_machine};
+ghost use Rattle.ga_dap_views.specs.Shown.{IsNodeVariable};
+ghost use Rattle.ga_dap_views.specs.Variables.{next_slot_number_text, neighbour_text, deadlock_text, variable_value_text};
 
 use crate::doing::{node_activity, thread_title};
 use crate::texts::{text_with_number, word_text};
 use crate::variable::Variable;
 use ga_grid::{NodeId, neighbour};
 use ga_lab::Lab;
-use ga_node::Place;
+use ga_node::NodePlace;
 use ga_ports::Side;
 use std::alloc::{AllocError, Global};
 
 fn slot_text(alloc: Global, slot: u32) -> Result<String, AllocError>
-    ensures { IfOk result (λ text. string_bytes text ≡ slot_state_text slot) }
+    ensures { IfOk result (λ text. string_bytes text ≡ next_slot_number_text slot) }
 {
     if slot == 4 {
         String::from_str(alloc, "4, a fetch is due")
@@ -28,7 +28,7 @@ fn slot_text(alloc: Global, slot: u32) -> Result<String, AllocError>
 
 /// The neighbour on a side and what it does, where there is one.
 fn neighbour_text(alloc: Global, lab: &Lab, node: NodeId, side: Side) -> Result<String, AllocError>
-    ensures { IfOk result (λ text. string_bytes text ≡ neighbour_text (chip_of lab.now) (neighbour_of node.number side)) }
+    ensures { IfOk result (λ text. string_bytes text ≡ neighbour_text (chip_of_machine lab.now) (neighbour_number node.number side)) }
 {
     match neighbour(node, side) {
         None => String::from_str(alloc, "none"),
@@ -43,7 +43,7 @@ fn words_of_stuck(stuck: bool) -> &'static str
 }
 
 /// The value of a variable of a node.
-#[tactic(auto, unfolding(ga_node::specs::Record::record_of))]
+#[tactic(auto, unfolding(ga_node::specs::Record::record_of_node))]
 pub fn json_value_of_variable(
     alloc: Global,
     lab: &Lab,
@@ -51,22 +51,22 @@ pub fn json_value_of_variable(
     node: NodeId,
     variable: Variable,
 ) -> Result<String, AllocError>
-    requires { IsVariable variable }
-    ensures { IfOk result (λ text. string_bytes text ≡ variable_value lab.now stuck node.number variable) }
+    requires { IsNodeVariable variable }
+    ensures { IfOk result (λ text. string_bytes text ≡ variable_value_text lab.now stuck node.number variable) }
 {
     let at = lab.node(node);
     match variable {
-        Variable::State => node_activity(alloc, at),
+        Variable::NodeStatus => node_activity(alloc, at),
         Variable::Step => text_with_number(alloc, "", lab.steps(node)),
-        Variable::P => word_text(alloc, at.get(Place::P)),
-        Variable::A => word_text(alloc, at.get(Place::A)),
-        Variable::B => word_text(alloc, at.get(Place::B)),
-        Variable::I => word_text(alloc, at.get(Place::I)),
-        Variable::Slot => slot_text(alloc, at.get(Place::Slot)),
-        Variable::Carry => text_with_number(alloc, "", at.get(Place::Carry)),
-        Variable::Io => word_text(alloc, at.get(Place::Io)),
-        Variable::DataWord(place) => word_text(alloc, at.d(place)),
-        Variable::ReturnWord(place) => word_text(alloc, at.r(place)),
+        Variable::P => word_text(alloc, at.get(NodePlace::P)),
+        Variable::A => word_text(alloc, at.get(NodePlace::A)),
+        Variable::B => word_text(alloc, at.get(NodePlace::B)),
+        Variable::I => word_text(alloc, at.get(NodePlace::I)),
+        Variable::Slot => slot_text(alloc, at.get(NodePlace::Slot)),
+        Variable::Carry => text_with_number(alloc, "", at.get(NodePlace::Carry)),
+        Variable::Io => word_text(alloc, at.get(NodePlace::Io)),
+        Variable::DataWord(place) => word_text(alloc, at.word_of_data_stack(place)),
+        Variable::ReturnWord(place) => word_text(alloc, at.word_of_return_stack(place)),
         Variable::Cell(address) => word_text(alloc, lab.memory(node, address).get()),
         Variable::Neighbour(side) => neighbour_text(alloc, lab, node, side),
         Variable::Stuck => String::from_str(alloc, words_of_stuck(stuck)),

@@ -1,7 +1,7 @@
 //! What a scope has.
 
 ghost use Rattle.std.specs.Prelude.{◌≡◌, ◌<◌, ◌++◌, IfOk, string_bytes};
-ghost use Rattle.ga_dap_views.specs.Shown.{IsVariable, variable_at, variable_count, variable_name};
+ghost use Rattle.ga_dap_views.specs.Shown.{IsNodeVariable, scope_variable_at_index, variable_count, variable_name};
 
 use crate::doing::side_name;
 use crate::scope::Scope;
@@ -13,7 +13,7 @@ use std::alloc::{AllocError, Global};
 #[derive(Clone, Copy, PartialEq, Eq, Debug)]
 pub enum Variable {
     /// What the node does.
-    State,
+    NodeStatus,
     /// The number of steps of the node in the history.
     Step,
     /// The register P.
@@ -44,7 +44,7 @@ pub enum Variable {
 
 /// The registers, in order.
 const REGISTERS: [Variable; 12] = [
-    Variable::State,
+    Variable::NodeStatus,
     Variable::Step,
     Variable::P,
     Variable::DataWord(0),
@@ -73,8 +73,8 @@ pub fn count_variables(scope: Scope) -> u8
 {
     match scope {
         Scope::Registers => 12,
-        Scope::Data => 10,
-        Scope::Returns => 9,
+        Scope::DataStackScope => 10,
+        Scope::ReturnStackScope => 9,
         Scope::Links => 5,
         Scope::Ram => 64,
         Scope::Rom => 64,
@@ -82,15 +82,15 @@ pub fn count_variables(scope: Scope) -> u8
 }
 
 /// A scope's variable at a place.
-pub fn variable_of(scope: Scope, place: u8) -> Variable
+pub fn find_variable_at_index(scope: Scope, place: u8) -> Variable
     requires { place < variable_count scope }
-    ensures value { result ≡ variable_at scope place }
-    ensures valid { IsVariable result }
+    ensures value { result ≡ scope_variable_at_index scope place }
+    ensures valid { IsNodeVariable result }
 {
     match scope {
         Scope::Registers => REGISTERS[place as usize],
-        Scope::Data => Variable::DataWord(place),
-        Scope::Returns => Variable::ReturnWord(place),
+        Scope::DataStackScope => Variable::DataWord(place),
+        Scope::ReturnStackScope => Variable::ReturnWord(place),
         Scope::Links => LINKS[place as usize],
         Scope::Ram => Variable::Cell(place),
         Scope::Rom => Variable::Cell(128 + place),
@@ -99,11 +99,11 @@ pub fn variable_of(scope: Scope, place: u8) -> Variable
 
 /// The name of a variable.
 pub fn variable_name(alloc: Global, variable: Variable) -> Result<String, AllocError>
-    requires { IsVariable variable }
+    requires { IsNodeVariable variable }
     ensures { IfOk result (λ text. string_bytes text ≡ variable_name variable) }
 {
     match variable {
-        Variable::State => String::from_str(alloc, "state"),
+        Variable::NodeStatus => String::from_str(alloc, "state"),
         Variable::Step => String::from_str(alloc, "step"),
         Variable::P => String::from_str(alloc, "p"),
         Variable::A => String::from_str(alloc, "a"),

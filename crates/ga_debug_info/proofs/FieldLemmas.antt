@@ -5,19 +5,19 @@ use Rattle.std.specs.List.{list_all}
 use Rattle.std.proofs.lemmas.List.{drop_more, drop_all}
 use Rattle.ga_node.specs.Record.{NodeState}
 use Rattle.ga_grid.specs.Chip.{node_at, default_node}
-use Rattle.ga_stacks.specs.Ring.{fresh_word}
-use Rattle.ga_debug_info.specs.Unrepresented.{is_fresh_word, unrepresented_line, unrepresented_fields, unrepresented_lines_from}
+use Rattle.ga_stacks.specs.Ring.{initial_stack_word}
+use Rattle.ga_debug_info.specs.Unrepresented.{is_initial_stack_word, unrepresented_fields_line, unrepresented_fields, unrepresented_lines_from}
 
-pub fresh_more : (words : List ℕ) (k : ℕ) → k < length words → (get_or words k 0 == fresh_word) ≡ true → list_all is_fresh_word (drop k words) ≡ list_all is_fresh_word (drop (k + 1) words)
-fresh_more words k within is = ap (list_all is_fresh_word) (drop_more words k 0 within) ∙ ap (λ b. b && list_all is_fresh_word (drop (k + 1) words)) is
+pub fresh_more : (words : List ℕ) (k : ℕ) → k < length words → (get_or words k 0 == initial_stack_word) ≡ true → list_all is_initial_stack_word (drop k words) ≡ list_all is_initial_stack_word (drop (k + 1) words)
+fresh_more words k within is = ap (list_all is_initial_stack_word) (drop_more words k 0 within) ∙ ap (λ b. b && list_all is_initial_stack_word (drop (k + 1) words)) is
 
-pub fresh_none : (words : List ℕ) (k : ℕ) → k < length words → (get_or words k 0 == fresh_word) ≡ false → list_all is_fresh_word (drop k words) ≡ false
-fresh_none words k within is = ap (list_all is_fresh_word) (drop_more words k 0 within) ∙ ap (λ b. b && list_all is_fresh_word (drop (k + 1) words)) is
+pub fresh_none : (words : List ℕ) (k : ℕ) → k < length words → (get_or words k 0 == initial_stack_word) ≡ false → list_all is_initial_stack_word (drop k words) ≡ false
+fresh_none words k within is = ap (list_all is_initial_stack_word) (drop_more words k 0 within) ∙ ap (λ b. b && list_all is_initial_stack_word (drop (k + 1) words)) is
 
-pub fresh_all : (words : List ℕ) (k : ℕ) → length words ≤ k → list_all is_fresh_word (drop k words) ≡ true
-fresh_all words k end = ap (list_all is_fresh_word) (drop_all k words end)
+pub fresh_all : (words : List ℕ) (k : ℕ) → length words ≤ k → list_all is_initial_stack_word (drop k words) ≡ true
+fresh_all words k end = ap (list_all is_initial_stack_word) (drop_all k words end)
 
-node_more : (n : ℕ) (nodes : List NodeState) → n < length nodes → unrepresented_lines_from n (drop n nodes) ≡ unrepresented_line n (unrepresented_fields (node_at nodes n)) ++ unrepresented_lines_from (n + 1) (drop (n + 1) nodes)
+node_more : (n : ℕ) (nodes : List NodeState) → n < length nodes → unrepresented_lines_from n (drop n nodes) ≡ unrepresented_fields_line n (unrepresented_fields (node_at nodes n)) ++ unrepresented_lines_from (n + 1) (drop (n + 1) nodes)
 unfolding unrepresented_lines_from
 node_more n nodes within = ap (unrepresented_lines_from n) (drop_more nodes n default_node within)
 
@@ -34,15 +34,15 @@ pub no_lines : (chip : List NodeState) (text : List ℕ) → text ≡ [] → Are
 no_lines chip text none = record { lines = ap (λ (t : List ℕ). t ++ unrepresented_lines_from 0 chip) none; size = λ some. absurd (omega arith) }
 
 pub one_line_more : (chip : List NodeState) (text new : List ℕ) (n id : ℕ) (node : NodeState) → length chip ≡ 144 → n < 144 → id ≡ n → node ≡ node_at chip id
-    → new ≡ text ++ unrepresented_line id (unrepresented_fields node) → AreLines chip text n → AreLines chip new (n + 1)
+    → new ≡ text ++ unrepresented_fields_line id (unrepresented_fields node) → AreLines chip text n → AreLines chip new (n + 1)
 one_line_more chip text new n id node size within is_id is_node pushed before =
-    let line : unrepresented_line id (unrepresented_fields node) ≡ unrepresented_line n (unrepresented_fields (node_at chip n)) =
-    ap (λ (k : ℕ). unrepresented_line k (unrepresented_fields node)) is_id
-    ∙ ap (λ (s : NodeState). unrepresented_line n (unrepresented_fields s)) (is_node ∙ ap (node_at chip) is_id) in
+    let line : unrepresented_fields_line id (unrepresented_fields node) ≡ unrepresented_fields_line n (unrepresented_fields (node_at chip n)) =
+    ap (λ (k : ℕ). unrepresented_fields_line k (unrepresented_fields node)) is_id
+    ∙ ap (λ (s : NodeState). unrepresented_fields_line n (unrepresented_fields s)) (is_node ∙ ap (node_at chip) is_id) in
     record {
       lines =
           ap (λ (t : List ℕ). t ++ unrepresented_lines_from (n + 1) (drop (n + 1) chip)) (pushed ∙ ap (λ (l : List ℕ). text ++ l) line)
-          ∙ (append_assoc text (unrepresented_line n (unrepresented_fields (node_at chip n))) (unrepresented_lines_from (n + 1) (drop (n + 1) chip))
+          ∙ (append_assoc text (unrepresented_fields_line n (unrepresented_fields (node_at chip n))) (unrepresented_lines_from (n + 1) (drop (n + 1) chip))
           ∙ (ap (λ (t : List ℕ). text ++ t) (sym (node_more n chip (omega arith))) ∙ before.lines));
       size = λ some. size;
     }

@@ -2,26 +2,26 @@
 use Rattle.std.specs.Prelude.{ℕ, ◌-◌, zero, suc, nat_lt, nat_le, ◌&&◌, if◌then◌else◌, List, [], ◌∷◌, ◌++◌, length, take, codes, decimal, Option, Some, None}
 use Rattle.std.specs.List.{flat_map}
 use Rattle.ga_text.specs.Lines.{Text}
-use Rattle.ga_text.specs.Digits.{hex2_of}
-use Rattle.ga_parser.specs.Hints.{hint_for}
+use Rattle.ga_text.specs.Digits.{two_hex_digits_text}
+use Rattle.ga_parser.specs.Hints.{hint_for_word}
 use Rattle.ga_parser.specs.declared.fault.SourceFault.{SourceFault}
 use Rattle.ga_parser.specs.declared.fault.NumberRange.{NumberRange}
 use Rattle.ga_parser.specs.declared.fault.NumberRange.TheVariants.{Word, P, B, Cell}
-use Rattle.ga_parser.specs.declared.fault.SourceCause.{SourceCause}
-use Rattle.ga_parser.specs.declared.fault.SourceCause.TheVariants.{Memory, LongLine, OpenComment, NoNode, NoSuchNode, NodeTwice, Unknown, Taken, Missing, NoNumber, LabelTwice, RegisterTwice, Unmatched, Open, Number, CellTwice, Past, Reach, Loop}
+use Rattle.ga_parser.specs.declared.fault.SourceFaultCause.{SourceFaultCause}
+use Rattle.ga_parser.specs.declared.fault.SourceFaultCause.TheVariants.{Memory, LongLine, OpenComment, NoNodeBegun, NoSuchNode, NodeTwice, UnknownWord, NameTaken, MissingNameOrValue, NoNumber, LabelTwice, RegisterTwice, UnmatchedControlWord, UnclosedControlWord, OperandOutOfRange, CellTwice, PastMemoryEnd, JumpOutOfReach, UnextOutOfReach}
 use Rattle.ga_source.specs.declared.program.Program.{Program}
-use Rattle.ga_source.specs.declared.stores.Store.{Store}
-use Rattle.ga_source.specs.Stores.{stores_of_program}
+use Rattle.ga_source.specs.declared.stores.StoreOverCode.{StoreOverCode}
+use Rattle.ga_source.specs.Stores.{stores_over_code_of_program}
 use Rattle.ga_debug_info.specs.Source.{address_text}
 
 -- ---- a fault
 
 -- printable ASCII is printed unchanged, and any other byte as `\x` and its two hexadecimal digits
-abbrev pub printable_byte : ℕ → Text
-printable_byte byte = if nat_le 32 byte && nat_lt byte 127 then byte ∷ [] else codes "\\x" ++ hex2_of byte
+abbrev pub printable_byte_text : ℕ → Text
+printable_byte_text byte = if nat_le 32 byte && nat_lt byte 127 then byte ∷ [] else codes "\\x" ++ two_hex_digits_text byte
 
 abbrev pub printable_text : Text → Text
-printable_text word = flat_map printable_byte word
+printable_text word = flat_map printable_byte_text word
 
 -- the spelling or the word that is proposed in place of an unknown one
 abbrev pub hint_suffix_text : Option Text → Text
@@ -44,30 +44,30 @@ abbrev pub org_address_text : ℕ → Text
 org_address_text cell = codes " (org " ++ decimal cell ++ codes " is " ++ address_text cell ++ codes ")"
 
 -- what is wrong
-abbrev pub cause_text : SourceCause → Text
-cause_text Memory = codes "no memory"
-cause_text LongLine = codes "the line has more than 200 bytes"
-cause_text OpenComment = codes "a comment without its )"
-cause_text NoNode = codes "no node has begun"
-cause_text NoSuchNode = codes "no such node"
-cause_text NodeTwice = codes "the node has a program already"
-cause_text (Unknown word) = codes "what is " ++ printable_text word.now ++ hint_suffix_text (hint_for word.now)
-cause_text Taken = codes "the name is taken"
-cause_text Missing = codes "a name or a value is missing"
-cause_text NoNumber = codes "no number from -131072 to 262143 before constant"
-cause_text LabelTwice = codes "the label stands twice"
-cause_text RegisterTwice = codes "the register is given twice"
-cause_text Unmatched = codes "nothing is open that this closes"
-cause_text Open = codes "this is never closed"
-cause_text (Number word range) = codes "number out of range: " ++ printable_text word.now ++ codes " (" ++ number_range_text range ++ codes ")"
-cause_text (CellTwice cell line) = repeated_cell_text cell line ++ org_address_text cell
-cause_text (Past address) = address_text address ++ codes " is past the end of RAM or ROM"
-cause_text (Reach cell target) = address_text target ++ codes " is out of reach of a jump in " ++ address_text cell
-cause_text (Loop cell) = codes "the loop of unext in " ++ address_text cell ++ codes " is longer than its cell"
+abbrev pub source_cause_text : SourceFaultCause → Text
+source_cause_text Memory = codes "no memory"
+source_cause_text LongLine = codes "the line has more than 200 bytes"
+source_cause_text OpenComment = codes "a comment without its )"
+source_cause_text NoNodeBegun = codes "no node has begun"
+source_cause_text NoSuchNode = codes "no such node"
+source_cause_text NodeTwice = codes "the node has a program already"
+source_cause_text (UnknownWord word) = codes "what is " ++ printable_text word.now ++ hint_suffix_text (hint_for_word word.now)
+source_cause_text NameTaken = codes "the name is taken"
+source_cause_text MissingNameOrValue = codes "a name or a value is missing"
+source_cause_text NoNumber = codes "no number from -131072 to 262143 before constant"
+source_cause_text LabelTwice = codes "the label stands twice"
+source_cause_text RegisterTwice = codes "the register is given twice"
+source_cause_text UnmatchedControlWord = codes "nothing is open that this closes"
+source_cause_text UnclosedControlWord = codes "this is never closed"
+source_cause_text (OperandOutOfRange word range) = codes "number out of range: " ++ printable_text word.now ++ codes " (" ++ number_range_text range ++ codes ")"
+source_cause_text (CellTwice cell line) = repeated_cell_text cell line ++ org_address_text cell
+source_cause_text (PastMemoryEnd address) = address_text address ++ codes " is past the end of RAM or ROM"
+source_cause_text (JumpOutOfReach cell target) = address_text target ++ codes " is out of reach of a jump in " ++ address_text cell
+source_cause_text (UnextOutOfReach cell) = codes "the loop of unext in " ++ address_text cell ++ codes " is longer than its cell"
 
 -- a fault with its line
-abbrev pub fault_text : SourceFault → Text
-fault_text fault = codes "line " ++ decimal fault.line ++ codes ": " ++ cause_text fault.cause
+abbrev pub source_fault_text : SourceFault → Text
+source_fault_text fault = codes "line " ++ decimal fault.line ++ codes ": " ++ source_cause_text fault.cause
 
 -- ---- faults
 
@@ -85,8 +85,8 @@ abbrev pub max_reported_faults : ℕ
 max_reported_faults = 20
 
 -- the first of some faults, each on a line, and the number of the others
-abbrev pub faults_text : Text → List SourceFault → Text
-faults_text prefix faults = flat_map (λ fault. prefixed_line prefix (fault_text fault)) (take max_reported_faults faults) ++ more_faults_text prefix (length faults - max_reported_faults)
+abbrev pub reported_faults_text : Text → List SourceFault → Text
+reported_faults_text prefix faults = flat_map (λ fault. prefixed_line prefix (source_fault_text fault)) (take max_reported_faults faults) ++ more_faults_text prefix (length faults - max_reported_faults)
 
 -- ---- lines of standard error
 
@@ -100,13 +100,13 @@ abbrev pub input_too_long_text : Text
 input_too_long_text = prefixed_line error_prefix (codes "the source has more than 16777216 bytes")
 
 -- a line that writes an address
-abbrev pub written_address_text : ℕ → ℕ → Text
-written_address_text line address = codes "line " ++ decimal line ++ codes ": warning: this writes " ++ address_text address
+abbrev pub address_write_warning_text : ℕ → ℕ → Text
+address_write_warning_text line address = codes "line " ++ decimal line ++ codes ": warning: this writes " ++ address_text address
 
 -- the warning of a store over code
-abbrev pub store_warning_text : Store → Text
-store_warning_text store = prefixed_line error_prefix (written_address_text store.line store.address ++ codes ", which holds code of line " ++ decimal store.code_line)
+abbrev pub store_warning_text : StoreOverCode → Text
+store_warning_text store = prefixed_line error_prefix (address_write_warning_text store.line store.address ++ codes ", which holds code of line " ++ decimal store.code_line)
 
 -- the stores over code of programs, in their order
-abbrev pub stores_of_programs : List Program → List Store
-stores_of_programs programs = flat_map stores_of_program programs
+abbrev pub stores_of_programs : List Program → List StoreOverCode
+stores_of_programs programs = flat_map stores_over_code_of_program programs

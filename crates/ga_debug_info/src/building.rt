@@ -1,15 +1,15 @@
 //! The notes of a source.
 
 ghost use Rattle.std.specs.Prelude.{◌≡◌, ◌++◌, map, decimal, IfOk, OnOk};
-ghost use Rattle.ga_debug_info.specs.Given.{HasSourceWords};
+ghost use Rattle.ga_debug_info.specs.Given.{HasGivenRangesOfSource};
 ghost use Rattle.ga_debug_info.specs.Notes.{IsDebugInfoOfSource};
-ghost use Rattle.ga_debug_info.specs.Source.{label_address_content, named_label, program_label_names, label_text, address_text, cell_comment_text as note_text_of, whole_line_text, cell_source_content, cell_sources_at_address, is_code, group_cell_sources, program_cell_sources, literal_cell_sources};
+ghost use Rattle.ga_debug_info.specs.Source.{label_address_content, label_address_if_named, program_label_addresses, space_and_label_name, address_text, cell_comment_text as note_text_of, whole_line_text, cell_source_content, cell_sources_at_address, are_code_items, group_cell_sources, program_cell_sources, literal_cell_sources};
 ghost use Rattle.ga_source.specs.Reading.{p_after_item};
-ghost use Rattle.ga_debug_info.specs.inner.{IsMarked};
+ghost use Rattle.ga_debug_info.specs.inner.{AreLastLabelsOfCells};
 
-use crate::given::source_ranges;
+use crate::given::given_ranges_of_source;
 use crate::label::{LastLabels, cell_of, name_of};
-use crate::line::{Lines, is_long};
+use crate::line::{SourceLineCursor, is_long};
 use crate::notes::{CellSource, DebugInfo, LabelAddress};
 use crate::wording::slot_words;
 use ga_grid::NodeId;
@@ -32,15 +32,15 @@ struct CellAt {
 ///
 /// # Errors
 /// Memory is wanting.
-pub fn debug_info_of(
+pub fn debug_info_of_source(
     alloc: Global,
     source: &[u8],
     programs: &[Program<'_>],
 ) -> Result<DebugInfo, AllocError>
     ensures notes { IfOk result (λ notes. IsDebugInfoOfSource source.now programs.now notes) }
-    ensures given { IfOk result (HasSourceWords programs.now) }
+    ensures given { IfOk result (HasGivenRangesOfSource programs.now) }
 {
-    let mut lines = Lines::new(source);
+    let mut lines = SourceLineCursor::new(source);
     let mut names = Vec::new(alloc);
     let mut notes = Vec::new(alloc);
     for program in programs {
@@ -48,7 +48,7 @@ pub fn debug_info_of(
         add_cells(alloc, &mut notes, program, &mut lines)?;
     }
     let words = slot_words(alloc, source)?;
-    let given = GivenWords::Ranges(source_ranges(alloc, programs, notes.as_slice())?);
+    let given = GivenWords::Ranges(given_ranges_of_source(alloc, programs, notes.as_slice())?);
     let expectations = expectation_lines(alloc, source)?;
     Ok(DebugInfo {
         notes,
@@ -65,7 +65,7 @@ fn add_names(
     names: &mut Vec<LabelAddress>,
     program: &Program<'_>,
 ) -> Result<(), AllocError>
-    ensures { OnOk result (map label_address_content names.new.items ≡ map label_address_content names.old.items ++ program_label_names program.now) }
+    ensures { OnOk result (map label_address_content names.new.items ≡ map label_address_content names.old.items ++ program_label_addresses program.now) }
 {
     for (label, address) in program.names.iter().zip(&program.labels) {
         add_name(alloc, names, program.node, label, *address)?;
@@ -81,7 +81,7 @@ fn add_name(
     label: &Label<'_>,
     address: Option<u32>,
 ) -> Result<(), AllocError>
-    ensures { OnOk result (map label_address_content names.new.items ≡ map label_address_content names.old.items ++ named_label node label.now address) }
+    ensures { OnOk result (map label_address_content names.new.items ≡ map label_address_content names.old.items ++ label_address_if_named node label.now address) }
 {
     let Some(address) = address else {
         return Ok(());
@@ -104,7 +104,7 @@ fn add_cells(
     alloc: Global,
     notes: &mut Vec<CellSource>,
     program: &Program<'_>,
-    lines: &mut Lines<'_>,
+    lines: &mut SourceLineCursor<'_>,
 ) -> Result<(), AllocError>
     ensures notes { OnOk result (map cell_source_content notes.new.items ≡ map cell_source_content notes.old.items ++ program_cell_sources lines.old program.now) }
     ensures same { lines.new ≡ lines.old }
@@ -123,9 +123,9 @@ fn add_group(
     program: &Program<'_>,
     marked: &LastLabels,
     group: &CellGroup,
-    lines: &mut Lines<'_>,
+    lines: &mut SourceLineCursor<'_>,
 ) -> Result<(), AllocError>
-    requires { IsMarked program.now marked.now.labels }
+    requires { AreLastLabelsOfCells program.now marked.now.labels }
     ensures notes { OnOk result (map cell_source_content notes.new.items ≡ map cell_source_content notes.old.items ++ group_cell_sources lines.old program.now group.now) }
     ensures same { lines.new ≡ lines.old }
 {
@@ -146,7 +146,7 @@ fn add_group(
 
 /// Whether a group is an instruction word, and no cell of data.
 pub(crate) fn is_code(group: &CellGroup) -> bool
-    ensures { result ≡ is_code group.now.items.items }
+    ensures { result ≡ are_code_items group.now.items.items }
 {
     match group.items.as_slice() {
         [AssemblyItem::Cell(_)] => false,
@@ -163,9 +163,9 @@ fn add_literal(
     p: u32,
     item: AssemblyItem,
     line: u32,
-    lines: &mut Lines<'_>,
+    lines: &mut SourceLineCursor<'_>,
 ) -> Result<u32, AllocError>
-    requires { IsMarked program.now marked.now.labels }
+    requires { AreLastLabelsOfCells program.now marked.now.labels }
     ensures p { IfOk result (λ behind. behind ≡ p_after_item p item) }
     ensures notes { OnOk result (map cell_source_content notes.new.items ≡ map cell_source_content notes.old.items ++ literal_cell_sources lines.old program.now p item line) }
     ensures same { lines.new ≡ lines.old }
@@ -189,9 +189,9 @@ fn add_cell(
     program: &Program<'_>,
     marked: &LastLabels,
     given: CellAt,
-    lines: &mut Lines<'_>,
+    lines: &mut SourceLineCursor<'_>,
 ) -> Result<(), AllocError>
-    requires { IsMarked program.now marked.now.labels }
+    requires { AreLastLabelsOfCells program.now marked.now.labels }
     ensures notes { OnOk result (map cell_source_content notes.new.items ≡ map cell_source_content notes.old.items ++ cell_sources_at_address lines.old program.now given.is_code given.address given.line) }
     ensures same { lines.new ≡ lines.old }
 {
@@ -220,7 +220,7 @@ fn cell_comment_text(
     address: u32,
     label: Option<usize>,
     line: u32,
-    lines: &mut Lines<'_>,
+    lines: &mut SourceLineCursor<'_>,
 ) -> Result<Vec<u8>, AllocError>
     ensures text { IfOk result (λ text. text.items ≡ note_text_of lines.old program.now address label line) }
     ensures same { lines.new ≡ lines.old }
@@ -235,7 +235,11 @@ fn cell_comment_text(
 }
 
 /// Adds a line with its number, unless it is long.
-fn push_line(text: &mut Vec<u8>, line: u32, lines: &mut Lines<'_>) -> Result<(), AllocError>
+fn push_line(
+    text: &mut Vec<u8>,
+    line: u32,
+    lines: &mut SourceLineCursor<'_>,
+) -> Result<(), AllocError>
     ensures text { OnOk result (text.new.items ≡ text.old.items ++ whole_line_text lines.old line) }
     ensures same { lines.new ≡ lines.old }
 {
@@ -254,7 +258,7 @@ fn push_label(
     program: &Program<'_>,
     label: Option<usize>,
 ) -> Result<(), AllocError>
-    ensures { OnOk result (text.new.items ≡ text.old.items ++ label_text program.now label) }
+    ensures { OnOk result (text.new.items ≡ text.old.items ++ space_and_label_name program.now label) }
 {
     let Some(label) = label else {
         return Ok(());
@@ -267,7 +271,7 @@ fn push_label(
 pub(crate) fn three_digits(address: u32) -> [u8; 3]
     ensures { result ≡ address_text address }
 {
-    let [_, _, _, high, middle, low] = Word18::from_low_bits(address).hex6();
+    let [_, _, _, high, middle, low] = Word18::from_low_bits(address).to_hex_digits();
     [high, middle, low]
 }
 

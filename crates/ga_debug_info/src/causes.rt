@@ -2,12 +2,12 @@
 
 ghost use Rattle.std.specs.Prelude.{◌≡◌, ◌++◌, OnOk, codes, decimal};
 ghost use Rattle.std.specs.List.{flat_map};
-ghost use Rattle.ga_parser.specs.Hints.{hint_for, hint_text};
-ghost use Rattle.ga_debug_info.specs.Faults.{printable_byte, printable_text, hint_suffix_text, number_range_text, repeated_cell_text, org_address_text, cause_text, fault_text, prefixed_line, more_faults_text, faults_text};
+ghost use Rattle.ga_parser.specs.Hints.{hint_for_word, hint_text};
+ghost use Rattle.ga_debug_info.specs.Faults.{printable_byte_text, printable_text, hint_suffix_text, number_range_text, repeated_cell_text, org_address_text, source_cause_text, source_fault_text, prefixed_line, more_faults_text, reported_faults_text};
 
 use crate::building::{push_number, three_digits};
-use ga_source::{Hint, NumberRange, SourceCause, SourceFault, hint_for};
-use ga_text::hex2;
+use ga_source::{NumberRange, SourceFault, SourceFaultCause, SpellingHint, hint_for_word};
+use ga_text::two_hex_digits;
 use std::alloc::AllocError;
 
 /// The maximum number of faults of a source that are printed.
@@ -15,14 +15,14 @@ const MAX_REPORTED: usize = 20;
 
 /// Adds a byte as it is printed.
 fn push_printable_byte(text: &mut Vec<u8>, byte: u8) -> Result<(), AllocError>
-    ensures { OnOk result (text.new.items ≡ text.old.items ++ printable_byte byte) }
+    ensures { OnOk result (text.new.items ≡ text.old.items ++ printable_byte_text byte) }
 {
     if 32 <= byte && byte < 127 {
         text.push(byte)?;
         return Ok(());
     }
     text.extend_from_slice(b"\\x")?;
-    text.extend_from_slice(&hex2(byte))
+    text.extend_from_slice(&two_hex_digits(byte))
 }
 
 /// Adds a word as it is printed.
@@ -37,7 +37,7 @@ fn push_printable(text: &mut Vec<u8>, word: &[u8]) -> Result<(), AllocError>
 
 /// Adds the three parts of a hint.
 #[tactic(auto, using(crate::proofs::Hinted::parts_shown))]
-fn push_hint(text: &mut Vec<u8>, hint: Hint<'_>) -> Result<(), AllocError>
+fn push_hint(text: &mut Vec<u8>, hint: SpellingHint<'_>) -> Result<(), AllocError>
     ensures { OnOk result (text.new.items ≡ text.old.items ++ (codes ": " ++ printable_text (hint_text hint.entry))) }
 {
     text.extend_from_slice(b": ")?;
@@ -48,9 +48,9 @@ fn push_hint(text: &mut Vec<u8>, hint: Hint<'_>) -> Result<(), AllocError>
 
 /// Adds what is proposed in place of a word, if anything is.
 fn push_proposal(text: &mut Vec<u8>, word: &[u8]) -> Result<(), AllocError>
-    ensures { OnOk result (text.new.items ≡ text.old.items ++ hint_suffix_text (hint_for word.now)) }
+    ensures { OnOk result (text.new.items ≡ text.old.items ++ hint_suffix_text (hint_for_word word.now)) }
 {
-    match hint_for(word) {
+    match hint_for_word(word) {
         Some(hint) => push_hint(text, hint),
         None => Ok(()),
     }
@@ -58,7 +58,7 @@ fn push_proposal(text: &mut Vec<u8>, word: &[u8]) -> Result<(), AllocError>
 
 /// Adds an unknown word, and what is proposed in its place.
 fn push_unknown(text: &mut Vec<u8>, word: &[u8]) -> Result<(), AllocError>
-    ensures { OnOk result (text.new.items ≡ text.old.items ++ (codes "what is " ++ printable_text word.now ++ hint_suffix_text (hint_for word.now))) }
+    ensures { OnOk result (text.new.items ≡ text.old.items ++ (codes "what is " ++ printable_text word.now ++ hint_suffix_text (hint_for_word word.now))) }
 {
     text.extend_from_slice(b"what is ")?;
     push_printable(text, word)?;
@@ -90,7 +90,7 @@ fn push_out_of_range(text: &mut Vec<u8>, word: &[u8], range: NumberRange) -> Res
 
 /// Adds what is wrong with a cell that was given before.
 fn push_twice(text: &mut Vec<u8>, cell: u32, line: u32) -> Result<(), AllocError>
-    ensures { OnOk result (text.new.items ≡ text.old.items ++ cause_text (SourceCause.CellTwice cell line)) }
+    ensures { OnOk result (text.new.items ≡ text.old.items ++ source_cause_text (SourceFaultCause.CellTwice cell line)) }
 {
     push_given_before(text, cell, line)?;
     push_org(text, cell)
@@ -119,7 +119,7 @@ fn push_org(text: &mut Vec<u8>, cell: u32) -> Result<(), AllocError>
 
 /// Adds what is wrong with a cell past the end of memory.
 fn push_past(text: &mut Vec<u8>, address: u32) -> Result<(), AllocError>
-    ensures { OnOk result (text.new.items ≡ text.old.items ++ cause_text (SourceCause.Past address)) }
+    ensures { OnOk result (text.new.items ≡ text.old.items ++ source_cause_text (SourceFaultCause.PastMemoryEnd address)) }
 {
     text.extend_from_slice(&three_digits(address))?;
     text.extend_from_slice(b" is past the end of RAM or ROM")
@@ -127,7 +127,7 @@ fn push_past(text: &mut Vec<u8>, address: u32) -> Result<(), AllocError>
 
 /// Adds what is wrong with a jump that doesn't reach its target.
 fn push_reach(text: &mut Vec<u8>, cell: u32, target: u32) -> Result<(), AllocError>
-    ensures { OnOk result (text.new.items ≡ text.old.items ++ cause_text (SourceCause.Reach cell target)) }
+    ensures { OnOk result (text.new.items ≡ text.old.items ++ source_cause_text (SourceFaultCause.JumpOutOfReach cell target)) }
 {
     text.extend_from_slice(&three_digits(target))?;
     text.extend_from_slice(b" is out of reach of a jump in ")?;
@@ -136,7 +136,7 @@ fn push_reach(text: &mut Vec<u8>, cell: u32, target: u32) -> Result<(), AllocErr
 
 /// Adds what is wrong with a loop that is longer than its cell.
 fn push_loop(text: &mut Vec<u8>, cell: u32) -> Result<(), AllocError>
-    ensures { OnOk result (text.new.items ≡ text.old.items ++ cause_text (SourceCause.Loop cell)) }
+    ensures { OnOk result (text.new.items ≡ text.old.items ++ source_cause_text (SourceFaultCause.UnextOutOfReach cell)) }
 {
     text.extend_from_slice(b"the loop of unext in ")?;
     text.extend_from_slice(&three_digits(cell))?;
@@ -144,37 +144,41 @@ fn push_loop(text: &mut Vec<u8>, cell: u32) -> Result<(), AllocError>
 }
 
 /// Adds what is wrong.
-fn push_cause(text: &mut Vec<u8>, cause: SourceCause<'_>) -> Result<(), AllocError>
-    ensures { OnOk result (text.new.items ≡ text.old.items ++ cause_text cause.entry) }
+fn push_cause(text: &mut Vec<u8>, cause: SourceFaultCause<'_>) -> Result<(), AllocError>
+    ensures { OnOk result (text.new.items ≡ text.old.items ++ source_cause_text cause.entry) }
 {
     match cause {
-        SourceCause::Memory => text.extend_from_slice(b"no memory"),
-        SourceCause::LongLine => text.extend_from_slice(b"the line has more than 200 bytes"),
-        SourceCause::OpenComment => text.extend_from_slice(b"a comment without its )"),
-        SourceCause::NoNode => text.extend_from_slice(b"no node has begun"),
-        SourceCause::NoSuchNode => text.extend_from_slice(b"no such node"),
-        SourceCause::NodeTwice => text.extend_from_slice(b"the node has a program already"),
-        SourceCause::Unknown(word) => push_unknown(text, word),
-        SourceCause::Taken => text.extend_from_slice(b"the name is taken"),
-        SourceCause::Missing => text.extend_from_slice(b"a name or a value is missing"),
-        SourceCause::NoNumber => {
+        SourceFaultCause::Memory => text.extend_from_slice(b"no memory"),
+        SourceFaultCause::LongLine => text.extend_from_slice(b"the line has more than 200 bytes"),
+        SourceFaultCause::OpenComment => text.extend_from_slice(b"a comment without its )"),
+        SourceFaultCause::NoNodeBegun => text.extend_from_slice(b"no node has begun"),
+        SourceFaultCause::NoSuchNode => text.extend_from_slice(b"no such node"),
+        SourceFaultCause::NodeTwice => text.extend_from_slice(b"the node has a program already"),
+        SourceFaultCause::UnknownWord(word) => push_unknown(text, word),
+        SourceFaultCause::NameTaken => text.extend_from_slice(b"the name is taken"),
+        SourceFaultCause::MissingNameOrValue => text.extend_from_slice(
+            b"a name or a value is missing",
+        ),
+        SourceFaultCause::NoNumber => {
             text.extend_from_slice(b"no number from -131072 to 262143 before constant")
         }
-        SourceCause::LabelTwice => text.extend_from_slice(b"the label stands twice"),
-        SourceCause::RegisterTwice => text.extend_from_slice(b"the register is given twice"),
-        SourceCause::Unmatched => text.extend_from_slice(b"nothing is open that this closes"),
-        SourceCause::Open => text.extend_from_slice(b"this is never closed"),
-        SourceCause::Number(word, range) => push_out_of_range(text, word, range),
-        SourceCause::CellTwice { cell, line } => push_twice(text, cell, line),
-        SourceCause::Past(address) => push_past(text, address),
-        SourceCause::Reach { cell, target } => push_reach(text, cell, target),
-        SourceCause::Loop(cell) => push_loop(text, cell),
+        SourceFaultCause::LabelTwice => text.extend_from_slice(b"the label stands twice"),
+        SourceFaultCause::RegisterTwice => text.extend_from_slice(b"the register is given twice"),
+        SourceFaultCause::UnmatchedControlWord => text.extend_from_slice(
+            b"nothing is open that this closes",
+        ),
+        SourceFaultCause::UnclosedControlWord => text.extend_from_slice(b"this is never closed"),
+        SourceFaultCause::OperandOutOfRange(word, range) => push_out_of_range(text, word, range),
+        SourceFaultCause::CellTwice { cell, line } => push_twice(text, cell, line),
+        SourceFaultCause::PastMemoryEnd(address) => push_past(text, address),
+        SourceFaultCause::JumpOutOfReach { cell, target } => push_reach(text, cell, target),
+        SourceFaultCause::UnextOutOfReach(cell) => push_loop(text, cell),
     }
 }
 
 /// Adds a fault with its line, without a line feed.
 pub fn push_fault(text: &mut Vec<u8>, fault: SourceFault<'_>) -> Result<(), AllocError>
-    ensures { OnOk result (text.new.items ≡ text.old.items ++ fault_text fault.entry) }
+    ensures { OnOk result (text.new.items ≡ text.old.items ++ source_fault_text fault.entry) }
 {
     text.extend_from_slice(b"line ")?;
     push_number(text, fault.line)?;
@@ -188,7 +192,7 @@ fn push_fault_line(
     prefix: &[u8],
     fault: SourceFault<'_>,
 ) -> Result<(), AllocError>
-    ensures { OnOk result (text.new.items ≡ text.old.items ++ prefixed_line prefix.now (fault_text fault.entry)) }
+    ensures { OnOk result (text.new.items ≡ text.old.items ++ prefixed_line prefix.now (source_fault_text fault.entry)) }
 {
     text.extend_from_slice(prefix)?;
     push_fault(text, fault)?;
@@ -202,7 +206,7 @@ fn push_all<'s>(
     prefix: &[u8],
     faults: &[SourceFault<'s>],
 ) -> Result<(), AllocError>
-    ensures { OnOk result (text.new.items ≡ text.old.items ++ flat_map (λ fault. prefixed_line prefix.now (fault_text fault)) faults.now) }
+    ensures { OnOk result (text.new.items ≡ text.old.items ++ flat_map (λ fault. prefixed_line prefix.now (source_fault_text fault)) faults.now) }
 {
     for fault in faults {
         push_fault_line(text, prefix, *fault)?;
@@ -237,7 +241,7 @@ pub fn push_faults<'s>(
     prefix: &[u8],
     faults: &[SourceFault<'s>],
 ) -> Result<(), AllocError>
-    ensures { OnOk result (text.new.items ≡ text.old.items ++ faults_text prefix.now faults.now) }
+    ensures { OnOk result (text.new.items ≡ text.old.items ++ reported_faults_text prefix.now faults.now) }
 {
     let (first, more) = faults.split_at(faults.len().min(MAX_REPORTED));
     push_all(text, prefix, first)?;

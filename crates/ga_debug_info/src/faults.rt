@@ -3,15 +3,17 @@
 ghost use Rattle.std.specs.Prelude.{◌≡◌, ◌⊎◌, ◌++◌, List, [], IfOk, IfErr, OnErr, OnOk};
 ghost use Rattle.std.specs.List.{flat_map};
 ghost use Rattle.ga_parser.specs.declared.fault.SourceFault.{SourceFault as FaultAt};
-ghost use Rattle.ga_parser.specs.declared.fault.SourceCause.TheVariants.{Memory};
+ghost use Rattle.ga_parser.specs.declared.fault.SourceFaultCause.TheVariants.{Memory};
 ghost use Rattle.ga_text.specs.Lines.{Bytes};
 ghost use Rattle.ga_text.specs.Output.{IsTextWrittenOrTruncated};
 ghost use Rattle.ga_source.specs.Recovery.{AreFaultsOfSource};
-ghost use Rattle.ga_debug_info.specs.Faults.{faults_text, error_prefix, out_of_memory_text, input_too_long_text, written_address_text, store_warning_text, stores_of_programs};
+ghost use Rattle.ga_debug_info.specs.Faults.{reported_faults_text, error_prefix, out_of_memory_text, input_too_long_text, address_write_warning_text, store_warning_text, stores_of_programs};
 
 use crate::building::{push_number, three_digits};
 use crate::causes::push_faults;
-use ga_source::{AssembledChip, Program, SourceFault, Store, all_faults, stores_over_code};
+use ga_source::{
+    AssembledChip, Program, SourceFault, StoreOverCode, find_all_faults, find_stores_over_code,
+};
 use ga_text::{WriteResult, write_all};
 use std::alloc::{AllocError, Global};
 use std::io::Write;
@@ -26,7 +28,7 @@ pub fn report_faults<'s, E: Write>(
 ) -> WriteResult
     ensures { (before : Bytes) → E.contents errors.old ≡ Some before →
         IsTextWrittenOrTruncated result (E.contents errors.new) before out_of_memory_text []
-        ⊎ ((faults : List FaultAt) × AreFaultsOfSource source.now first.entry faults × IsTextWrittenOrTruncated result (E.contents errors.new) before (faults_text error_prefix faults) []) }
+        ⊎ ((faults : List FaultAt) × AreFaultsOfSource source.now first.entry faults × IsTextWrittenOrTruncated result (E.contents errors.new) before (reported_faults_text error_prefix faults) []) }
 {
     match format_faults(alloc, b"ga144: ", source, first) {
         Ok(text) => tell(errors, text.as_slice()),
@@ -44,10 +46,10 @@ pub fn format_faults<'s>(
     source: &'s [u8],
     first: SourceFault<'s>,
 ) -> Result<Vec<u8>, SourceFault<'s>>
-    ensures text { IfOk result (λ text. (faults : List FaultAt) × AreFaultsOfSource source.now first.entry faults × (text.items ≡ faults_text prefix.now faults)) }
+    ensures text { IfOk result (λ text. (faults : List FaultAt) × AreFaultsOfSource source.now first.entry faults × (text.items ≡ reported_faults_text prefix.now faults)) }
     ensures refused { IfErr result (λ fault. fault.cause ≡ Memory) }
 {
-    let faults = all_faults(alloc, source, first)?;
+    let faults = find_all_faults(alloc, source, first)?;
     let mut text = Vec::new(alloc);
     push_faults(&mut text, prefix, faults.as_slice())?;
     Ok(text)
@@ -69,7 +71,7 @@ pub fn report_input_too_long<E: Write>(errors: &mut E) -> WriteResult
 
 /// Adds a line that writes an address.
 fn push_write(text: &mut Vec<u8>, line: u32, address: u32) -> Result<(), AllocError>
-    ensures { OnOk result (text.new.items ≡ text.old.items ++ written_address_text line address) }
+    ensures { OnOk result (text.new.items ≡ text.old.items ++ address_write_warning_text line address) }
 {
     text.extend_from_slice(b"line ")?;
     push_number(text, line)?;
@@ -78,7 +80,7 @@ fn push_write(text: &mut Vec<u8>, line: u32, address: u32) -> Result<(), AllocEr
 }
 
 /// Adds the warning of a store over code.
-fn push_store(text: &mut Vec<u8>, store: Store) -> Result<(), AllocError>
+fn push_store(text: &mut Vec<u8>, store: StoreOverCode) -> Result<(), AllocError>
     ensures { OnOk result (text.new.items ≡ text.old.items ++ store_warning_text store) }
 {
     text.extend_from_slice(b"ga144: ")?;
@@ -90,7 +92,7 @@ fn push_store(text: &mut Vec<u8>, store: Store) -> Result<(), AllocError>
 }
 
 /// Adds the warnings of stores over code.
-fn push_stores(text: &mut Vec<u8>, stores: &[Store]) -> Result<(), AllocError>
+fn push_stores(text: &mut Vec<u8>, stores: &[StoreOverCode]) -> Result<(), AllocError>
     ensures { OnOk result (text.new.items ≡ text.old.items ++ flat_map store_warning_text stores.now) }
 {
     for store in stores {
@@ -100,12 +102,12 @@ fn push_stores(text: &mut Vec<u8>, stores: &[Store]) -> Result<(), AllocError>
 }
 
 /// The stores over code of programs, in their order.
-fn stores_of(alloc: Global, programs: &[Program<'_>]) -> Result<Vec<Store>, AllocError>
+fn stores_of(alloc: Global, programs: &[Program<'_>]) -> Result<Vec<StoreOverCode>, AllocError>
     ensures { IfOk result (λ stores. stores.items ≡ stores_of_programs programs.now) }
 {
     let mut all = Vec::new(alloc);
     for program in programs {
-        let stores = stores_over_code(alloc, program)?;
+        let stores = find_stores_over_code(alloc, program)?;
         all.extend_from_slice(stores.as_slice())?;
     }
     Ok(all)
@@ -125,7 +127,7 @@ fn text_of_stores(alloc: Global, programs: &[Program<'_>]) -> Result<Vec<u8>, Al
 ///
 /// # Errors
 /// Out of memory; nothing was written then.
-pub fn report_code_stores<E: Write>(
+pub fn report_stores_over_code<E: Write>(
     alloc: Global,
     errors: &mut E,
     assembled: &AssembledChip<'_>,

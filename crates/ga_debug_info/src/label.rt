@@ -2,9 +2,9 @@
 
 ghost use Rattle.std.specs.Prelude.{◌≡◌, ◌<◌, ℕ, None, length, replicate, IfSome};
 ghost use Rattle.std.specs.Option.{option_or};
-ghost use Rattle.ga_debug_info.specs.Source.{cell_of_address, label_name as name_by, label_cell as label_cell_of, marked_label, label_at_or_before};
+ghost use Rattle.ga_debug_info.specs.Source.{cell_of_address, label_name as name_by, label_cell as label_cell_of, label_marked_in_cell, label_at_or_before};
 ghost use Rattle.ga_source.specs.declared.program.Program.{Program as AProgram};
-ghost use Rattle.ga_debug_info.specs.inner.{label_at, IsMarked};
+ghost use Rattle.ga_debug_info.specs.inner.{label_at_cell, AreLastLabelsOfCells};
 
 use ga_ports::{AddressTarget, classify_address};
 use ga_source::{AssemblyRequest, Program};
@@ -20,7 +20,7 @@ pub(crate) struct LastLabels {
 
 impl LastLabels {
     pub(crate) fn of(program: &Program<'_>) -> Self
-        ensures { IsMarked program.now result.labels }
+        ensures { AreLastLabelsOfCells program.now result.labels }
     {
         let mut labels = none_marked();
         for asked in &program.asked {
@@ -32,7 +32,7 @@ impl LastLabels {
     /// The last label at or before a cell, in the same memory.
     pub(crate) fn before(&self, cell: u8) -> Option<usize>
         requires { cell < 192 }
-        ensures { (program : AProgram) → IsMarked program self.now.labels → result ≡ label_at_or_before program cell }
+        ensures { (program : AProgram) → AreLastLabelsOfCells program self.now.labels → result ≡ label_at_or_before program cell }
     {
         let first = usize::from(cell / 64 * 64);
         let mut behind = usize::from(cell % 64);
@@ -55,9 +55,9 @@ fn none_marked() -> [Option<usize>; CELLS]
 fn mark(labels: &mut [Option<usize>], program: &Program<'_>, request: AssemblyRequest)
     requires { length labels.old ≡ 192 }
     ensures size { length labels.new ≡ 192 }
-    ensures marked { (cell : ℕ) → cell < 192 → label_at labels.new cell ≡ option_or (marked_label program.now cell request) (label_at labels.old cell) }
+    ensures marked { (cell : ℕ) → cell < 192 → label_at_cell labels.new cell ≡ option_or (label_marked_in_cell program.now cell request) (label_at_cell labels.old cell) }
 {
-    if let AssemblyRequest::Mark(label) = request {
+    if let AssemblyRequest::MarkLabel(label) = request {
         if let Some(cell) = label_cell(program, label) {
             labels[usize::from(cell)] = Some(label);
         }

@@ -13,15 +13,17 @@ mod notes;
 mod unrepresented;
 mod wording;
 
-pub use building::debug_info_of;
+pub use building::debug_info_of_source;
 pub use causes::{push_fault, push_faults};
 pub use editor_artifact::{
-    EditorArtifact, find_image_artifact, find_source_artifact, report_editor_artifact,
+    StrayEditorCharacter, find_stray_character_in_image, find_stray_character_in_source,
+    report_stray_character,
 };
 pub use faults::{
-    format_faults, report_code_stores, report_faults, report_input_too_long, report_out_of_memory,
+    format_faults, report_faults, report_input_too_long, report_out_of_memory,
+    report_stores_over_code,
 };
-pub use line::Lines;
+pub use line::SourceLineCursor;
 pub use notes::{CellSource, DebugInfo, LabelAddress, label_address};
-pub use unrepresented::report_unrepresented;
+pub use unrepresented::report_unrepresented_fields;
 pub use wording::{DisplayedWord, SlotWord};

@@ -2,10 +2,10 @@
 
 ghost use Rattle.std.specs.Prelude.{◌≡◌, [], drop, slice_index_or};
 ghost use Rattle.ga_parser.specs.Saying.{source_lines};
-ghost use Rattle.ga_debug_info.specs.Source.{unmarked_source_line, trimmed_source_line, is_long_line};
-ghost use Rattle.ga_debug_info.specs.Notes.{source_text_from};
+ghost use Rattle.ga_debug_info.specs.Source.{source_line_without_mark, trimmed_source_line, is_long_line};
+ghost use Rattle.ga_debug_info.specs.Notes.{source_text_from_column};
 
-use ga_source::strip_bom;
+use ga_source::strip_byte_order_mark;
 use std::marker::Model;
 
 /// The maximum number of bytes of a line that is shown whole.
@@ -20,14 +20,14 @@ pub(crate) fn is_long(text: &[u8]) -> bool
 
 /// The lines of a source. One that doesn't stand before the line that was asked for last is looked for from there on.
 #[derive(Drop)]
-pub struct Lines<'s> {
+pub struct SourceLineCursor<'s> {
     source: &'s [u8],
     /// How many lines stand before the rest.
     before: u32,
     rest: &'s [u8],
 }
 
-impl<'s> Model for Lines<'s> {
+impl<'s> Model for SourceLineCursor<'s> {
     ghost use Rattle.std.specs.Prelude.{◌≡◌, ℕ, List, drop};
     ghost use Rattle.ga_parser.specs.Saying.{source_lines};
 
@@ -38,12 +38,12 @@ impl<'s> Model for Lines<'s> {
     ghost invariant = { λ l. source_lines l.rest.now ≡ drop l.before (source_lines l.source.now) };
 }
 
-impl<'s> Lines<'s> {
+impl<'s> SourceLineCursor<'s> {
     /// The lines of this source.
     pub fn new(source: &'s [u8]) -> Self
         ensures { result ≡ source.now }
     {
-        Lines {
+        SourceLineCursor {
             source,
             before: 0,
             rest: source,
@@ -61,8 +61,8 @@ impl<'s> Lines<'s> {
 
     /// A line by its number from a column on, without surrounding blanks. Columns are counted in bytes from 1 on, after a byte
     /// order mark.
-    pub fn from_column(&mut self, number: u32, column: u32) -> &'s [u8]
-        ensures line { result.now ≡ source_text_from self.old number column }
+    pub fn line_from_column(&mut self, number: u32, column: u32) -> &'s [u8]
+        ensures line { result.now ≡ source_text_from_column self.old number column }
         ensures same { self.new ≡ self.old }
     {
         past(self.bare(number), column.saturating_sub(1)).trim_ascii()
@@ -71,14 +71,14 @@ impl<'s> Lines<'s> {
     /// A line by its number, unchanged; the first without a byte order mark.
     #[tactic(auto, using(crate::proofs::LineLemmas::line_found))]
     fn bare(&mut self, number: u32) -> &'s [u8]
-        ensures line { result.now ≡ unmarked_source_line self.old number }
+        ensures line { result.now ≡ source_line_without_mark self.old number }
         ensures same { self.new ≡ self.old }
     {
         let before = number.saturating_sub(1);
         self.rest = behind(self.source, self.before, self.rest, before);
         self.before = before;
         let (first, _) = first_line(self.rest);
-        strip_bom(number, first)
+        strip_byte_order_mark(number, first)
     }
 }
 

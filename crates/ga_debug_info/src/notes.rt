@@ -1,12 +1,12 @@
 //! Notes of cells, and the names of addresses.
 
 ghost use Rattle.std.specs.Prelude.{◌≡◌, position};
-ghost use Rattle.ga_debug_info.specs.Notes.{is_source_of_cell, cell_begins_on_line, is_label_of_node, displayed_slot as slot_worded_by, is_slot_word, is_closer_word as is_nearer_word, nearer_word, label_address_of};
+ghost use Rattle.ga_debug_info.specs.Notes.{is_source_of_cell, cell_begins_on_line, is_label_of_node, slot_or_first_for_fetch as slot_worded_by, is_word_of_slot, is_earlier_slot_word_from_line as is_nearer_word, earlier_slot_word_from_line, label_address_of_node};
 
 use crate::wording::{DisplayedWord, SlotWord};
 use ga_grid::NodeId;
 use ga_image::GivenWords;
-use ga_node::Place;
+use ga_node::NodePlace;
 use ga_source::ExpectationLine;
 use std::alloc::Global;
 
@@ -54,21 +54,21 @@ impl DebugInfo {
     ghost use Rattle.std.specs.Prelude.{◌≡◌, ◌==◌, length, [], None, Some, option_map};
     ghost use Rattle.ga_image.specs.Given.{is_word_given};
     ghost use Rattle.ga_image.specs.declared.given.GivenWords.TheVariants.{All};
-    ghost use Rattle.ga_debug_info.specs.Notes.{first_cell_source_text, is_first_cell_source_long, slot_text, slot_word_of, nearest_word, line_address, label_address_of};
+    ghost use Rattle.ga_debug_info.specs.Notes.{text_of_first_source_of_cell, is_first_source_of_cell_truncated, slot_text, slot_word_of_cell, first_slot_word_from_line, line_address, label_address_of_node};
 
     /// No debug info, of a chip whose words are all given.
-    pub fn none(alloc: Global) -> Self
+    pub fn no_debug_info(alloc: Global) -> Self
         ensures notes { result.notes.items ≡ [] }
         ensures names { result.names.items ≡ [] }
         ensures words { result.words.items ≡ [] }
         ensures given { result.given ≡ All }
         ensures expectations { result.expectations.items ≡ [] }
     {
-        DebugInfo::of_image(alloc, GivenWords::All)
+        DebugInfo::for_image(alloc, GivenWords::All)
     }
 
     /// The debug info of an image, which gives these words and says nothing of cells.
-    pub fn of_image(alloc: Global, given: GivenWords) -> Self
+    pub fn for_image(alloc: Global, given: GivenWords) -> Self
         ensures notes { result.notes.items ≡ [] }
         ensures names { result.names.items ≡ [] }
         ensures words { result.words.items ≡ [] }
@@ -85,10 +85,10 @@ impl DebugInfo {
     }
 
     /// Whether the text gives the word at load of a place of a node. Takes time linear in what it gives.
-    pub fn is_word_given(&self, node: NodeId, place: Place) -> bool
+    pub fn is_word_given(&self, node: NodeId, place: NodePlace) -> bool
         ensures { result ≡ is_word_given self.now.given node place }
     {
-        self.given.has(node, place)
+        self.given.gives_word(node, place)
     }
 
     /// Whether there is no debug info of any cell.
@@ -99,8 +99,8 @@ impl DebugInfo {
     }
 
     /// The text of a cell of a node: empty if there is no cell, or the source doesn't give it.
-    pub fn text_of(&self, node: NodeId, cell: Option<u8>) -> &[u8]
-        ensures { result.now ≡ first_cell_source_text self.now.notes.items node cell }
+    pub fn cell_text(&self, node: NodeId, cell: Option<u8>) -> &[u8]
+        ensures { result.now ≡ text_of_first_source_of_cell self.now.notes.items node cell }
     {
         let Some(cell) = cell else {
             return &[];
@@ -115,8 +115,8 @@ impl DebugInfo {
     }
 
     /// Whether the text of a cell ends before a word: the line that gives it is long.
-    pub fn is_truncated(&self, node: NodeId, cell: Option<u8>) -> bool
-        ensures { result ≡ is_first_cell_source_long self.now.notes.items node cell }
+    pub fn is_cell_text_truncated(&self, node: NodeId, cell: Option<u8>) -> bool
+        ensures { result ≡ is_first_source_of_cell_truncated self.now.notes.items node cell }
     {
         let Some(cell) = cell else {
             return false;
@@ -149,7 +149,7 @@ impl DebugInfo {
 
     /// The word from which a slot of a cell comes; of slot 4, the fetch, the one that begins the cell.
     pub fn slot_word(&self, node: NodeId, cell: u8, slot: usize) -> Option<SlotWord>
-        ensures { result ≡ slot_word_of self.now.words.items node cell slot }
+        ensures { result ≡ slot_word_of_cell self.now.words.items node cell slot }
     {
         let place = word_place(self.words.as_slice(), node, cell, slot)?;
         match self.words.get(place) {
@@ -159,8 +159,8 @@ impl DebugInfo {
     }
 
     /// The first word of a line, or of the next line that has one, from which a slot of an instruction word comes.
-    pub fn first_word(&self, line: u32) -> Option<SlotWord>
-        ensures { result ≡ nearest_word line None self.now.words.items }
+    pub fn find_first_slot_word_from_line(&self, line: u32) -> Option<SlotWord>
+        ensures { result ≡ first_slot_word_from_line line None self.now.words.items }
     {
         let mut best = None;
         for told in &self.words {
@@ -181,8 +181,8 @@ impl DebugInfo {
     }
 
     /// The address of a label of a node.
-    pub fn label_address_of(&self, node: NodeId, text: &[u8]) -> Option<u32>
-        ensures { result ≡ label_address_of self.now.names.items node text.now }
+    pub fn label_address_of_node(&self, node: NodeId, text: &[u8]) -> Option<u32>
+        ensures { result ≡ label_address_of_node self.now.names.items node text.now }
     {
         label_address(self.names.as_slice(), node, text)
     }
@@ -234,7 +234,7 @@ fn name_place(names: &[LabelAddress], node: NodeId, text: &[u8]) -> Option<usize
 
 /// The address of a label of a node, of the labels of all nodes.
 pub fn label_address(names: &[LabelAddress], node: NodeId, text: &[u8]) -> Option<u32>
-    ensures { result ≡ label_address_of names.now node text.now }
+    ensures { result ≡ label_address_of_node names.now node text.now }
 {
     let place = name_place(names, node, text)?;
     match names.get(place) {
@@ -244,7 +244,7 @@ pub fn label_address(names: &[LabelAddress], node: NodeId, text: &[u8]) -> Optio
 }
 
 /// The slot whose word is shown: for a fetch, which has slot 4, the first.
-fn displayed_slot(slot: usize) -> usize
+fn slot_or_first_for_fetch(slot: usize) -> usize
     ensures { result ≡ slot_worded_by slot }
 {
     if slot < 4 { slot } else { 0 }
@@ -252,16 +252,16 @@ fn displayed_slot(slot: usize) -> usize
 
 /// Whether a word is that of a slot of a cell.
 fn is_word_of(told: &DisplayedWord, node: NodeId, cell: u8, slot: usize) -> bool
-    ensures { result ≡ is_slot_word node cell slot told.now }
+    ensures { result ≡ is_word_of_slot node cell slot told.now }
 {
-    let slot = displayed_slot(slot);
+    let slot = slot_or_first_for_fetch(slot);
     let word = told.word;
     word.node == node && word.cell == cell && word.first <= slot && slot <= word.last
 }
 
 /// The place of the first word that is that of a slot of a cell.
 fn word_place(words: &[DisplayedWord], node: NodeId, cell: u8, slot: usize) -> Option<usize>
-    ensures { result ≡ position (is_slot_word node cell slot) words.now }
+    ensures { result ≡ position (is_word_of_slot node cell slot) words.now }
 {
     words
         .iter()
@@ -270,9 +270,9 @@ fn word_place(words: &[DisplayedWord], node: NodeId, cell: u8, slot: usize) -> O
 
 /// Of two words the one that comes first from a line on; of two on one line, the first of the two.
 fn nearer(line: u32, best: Option<SlotWord>, word: SlotWord) -> Option<SlotWord>
-    ensures { result ≡ nearer_word line best word }
+    ensures { result ≡ earlier_slot_word_from_line line best word }
 {
-    if is_closer_word(line, best, word) {
+    if is_earlier_slot_word_from_line(line, best, word) {
         Some(word)
     } else {
         best
@@ -280,7 +280,7 @@ fn nearer(line: u32, best: Option<SlotWord>, word: SlotWord) -> Option<SlotWord>
 }
 
 /// Whether a word is of code, from a line on, and comes before another.
-fn is_closer_word(line: u32, best: Option<SlotWord>, word: SlotWord) -> bool
+fn is_earlier_slot_word_from_line(line: u32, best: Option<SlotWord>, word: SlotWord) -> bool
     ensures { result ≡ is_nearer_word line best word }
 {
     let is_behind = word.is_code && line <= word.line;

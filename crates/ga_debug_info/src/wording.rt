@@ -4,11 +4,11 @@ ghost use Rattle.std.specs.Prelude.{◌≡◌, ◌<◌, ◌++◌, ◌∷◌, [],
 ghost use Rattle.ga_source.specs.Reading.{p_after_item};
 ghost use Rattle.ga_parser.specs.Saying.{token_contents, token_columns};
 ghost use Rattle.ga_parser.specs.Words.{source_tokens, source_columns};
-ghost use Rattle.ga_debug_info.specs.Notes.{word_line as line_by_number, word_column as column_by_number, located_word_text, long_line_word_text, displayed_word_content, last_slot as last_slot_of, word_in_slot as word_by_slot, displayed_word, displayed_slot_words, displayed_address_words, displayed_literal_words, displayed_group_words, displayed_program_words, displayed_words, AreSlotWords};
+ghost use Rattle.ga_debug_info.specs.Notes.{line_of_word_number as line_by_number, column_of_word_number as column_by_number, located_word_text, long_line_word_text, displayed_word_content, last_slot_of_word as last_slot_of, word_in_slot as word_by_slot, displayed_word, displayed_slot_words, displayed_address_words, displayed_literal_words, displayed_group_words, displayed_program_words, all_displayed_words, AreSlotWords};
 
 use crate::building::{is_code, push_number};
 use crate::label::cell_of;
-use crate::line::{Lines, is_long};
+use crate::line::{SourceLineCursor, is_long};
 use ga_grid::NodeId;
 use ga_ports::advance_p;
 use ga_source::{AssemblyItem, CellGroup, Program, Token, assemble_by_word_number, source_words};
@@ -58,7 +58,7 @@ pub(crate) fn slot_words(alloc: Global, source: &[u8]) -> Result<Vec<DisplayedWo
     let Ok(all) = assemble_by_word_number(alloc, words.as_slice()) else {
         return Err(AllocError);
     };
-    let mut lines = Lines::new(source);
+    let mut lines = SourceLineCursor::new(source);
     let told = add_programs(alloc, all.programs.as_slice(), words.as_slice(), &mut lines)?;
     Ok(told)
 }
@@ -68,9 +68,9 @@ fn add_programs(
     alloc: Global,
     programs: &[Program<'_>],
     words: &[Token<'_>],
-    lines: &mut Lines<'_>,
+    lines: &mut SourceLineCursor<'_>,
 ) -> Result<Vec<DisplayedWord>, AllocError>
-    ensures words { IfOk result (λ told. map displayed_word_content told.items ≡ displayed_words lines.old words.now programs.now) }
+    ensures words { IfOk result (λ told. map displayed_word_content told.items ≡ all_displayed_words lines.old words.now programs.now) }
     ensures same { lines.new ≡ lines.old }
 {
     let mut told = Vec::new(alloc);
@@ -86,7 +86,7 @@ fn add_program(
     told: &mut Vec<DisplayedWord>,
     program: &Program<'_>,
     words: &[Token<'_>],
-    lines: &mut Lines<'_>,
+    lines: &mut SourceLineCursor<'_>,
 ) -> Result<(), AllocError>
     ensures words { OnOk result (map displayed_word_content told.new.items ≡ map displayed_word_content told.old.items ++ displayed_program_words lines.old words.now program.now) }
     ensures same { lines.new ≡ lines.old }
@@ -104,7 +104,7 @@ fn add_group(
     node: NodeId,
     group: &CellGroup,
     words: &[Token<'_>],
-    lines: &mut Lines<'_>,
+    lines: &mut SourceLineCursor<'_>,
 ) -> Result<(), AllocError>
     ensures words { OnOk result (map displayed_word_content told.new.items ≡ map displayed_word_content told.old.items ++ displayed_group_words lines.old words.now node group.now) }
     ensures same { lines.new ≡ lines.old }
@@ -137,7 +137,7 @@ fn add_literal(
     item: AssemblyItem,
     number: u32,
     words: &[Token<'_>],
-    lines: &mut Lines<'_>,
+    lines: &mut SourceLineCursor<'_>,
 ) -> Result<u32, AllocError>
     ensures p { IfOk result (λ behind. behind ≡ p_after_item p item) }
     ensures words { OnOk result (map displayed_word_content told.new.items ≡ map displayed_word_content told.old.items ++ displayed_literal_words lines.old words.now node p item number) }
@@ -159,7 +159,7 @@ fn add_cell(
     address: u32,
     numbers: &[u32],
     words: &[Token<'_>],
-    lines: &mut Lines<'_>,
+    lines: &mut SourceLineCursor<'_>,
 ) -> Result<(), AllocError>
     ensures words { OnOk result (map displayed_word_content told.new.items ≡ map displayed_word_content told.old.items ++ displayed_address_words lines.old words.now node is_code address numbers.now) }
     ensures same { lines.new ≡ lines.old }
@@ -167,7 +167,7 @@ fn add_cell(
     let Some(cell) = cell_of(address) else {
         return Ok(());
     };
-    let line = word_line(words, first_of(numbers));
+    let line = line_of_word_number(words, first_of(numbers));
     let cell = Begun {
         node,
         cell,
@@ -194,7 +194,7 @@ fn add_slots(
     cell: Begun,
     numbers: &[u32],
     words: &[Token<'_>],
-    lines: &mut Lines<'_>,
+    lines: &mut SourceLineCursor<'_>,
 ) -> Result<(), AllocError>
     ensures words { OnOk result (map displayed_word_content told.new.items ≡ map displayed_word_content told.old.items ++ displayed_slot_words lines.old words.now cell (length numbers.now) 0 numbers.now) }
     ensures same { lines.new ≡ lines.old }
@@ -219,9 +219,9 @@ fn word_in_slot(cell: Begun, size: usize, slot: usize, number: u32, words: &[Tok
         cell: cell.cell,
         is_code: cell.is_code,
         first: slot,
-        last: last_slot(size, slot),
-        line: word_line(words, number),
-        column: word_column(words, number),
+        last: last_slot_of_word(size, slot),
+        line: line_of_word_number(words, number),
+        column: column_of_word_number(words, number),
     }
 }
 
@@ -231,7 +231,7 @@ fn add_word(
     told: &mut Vec<DisplayedWord>,
     begun: u32,
     word: SlotWord,
-    lines: &mut Lines<'_>,
+    lines: &mut SourceLineCursor<'_>,
 ) -> Result<(), AllocError>
     ensures words { OnOk result (map displayed_word_content told.new.items ≡ map displayed_word_content told.old.items ++ displayed_word lines.old begun word ∷ []) }
     ensures same { lines.new ≡ lines.old }
@@ -242,7 +242,7 @@ fn add_word(
 }
 
 /// The last slot that has the word of this one.
-fn last_slot(size: usize, slot: usize) -> usize
+fn last_slot_of_word(size: usize, slot: usize) -> usize
     requires { slot < size }
     ensures { result ≡ last_slot_of size slot }
 {
@@ -250,7 +250,7 @@ fn last_slot(size: usize, slot: usize) -> usize
 }
 
 /// The line of the word with a number, 0 where there is none.
-fn word_line(words: &[Token<'_>], number: u32) -> u32
+fn line_of_word_number(words: &[Token<'_>], number: u32) -> u32
     ensures { result ≡ line_by_number words.now number }
 {
     match words.get(number.saturating_sub(1) as usize) {
@@ -260,7 +260,7 @@ fn word_line(words: &[Token<'_>], number: u32) -> u32
 }
 
 /// The column of the word with a number, 0 where there is none.
-fn word_column(words: &[Token<'_>], number: u32) -> u32
+fn column_of_word_number(words: &[Token<'_>], number: u32) -> u32
     ensures { result ≡ column_by_number words.now number }
 {
     match words.get(number.saturating_sub(1) as usize) {
@@ -275,7 +275,7 @@ fn quoted(
     begun: u32,
     line: u32,
     column: u32,
-    lines: &mut Lines<'_>,
+    lines: &mut SourceLineCursor<'_>,
 ) -> Result<Vec<u8>, AllocError>
     ensures text { IfOk result (λ text. text.items ≡ long_line_word_text lines.old begun line column) }
     ensures same { lines.new ≡ lines.old }
@@ -292,7 +292,7 @@ fn push_quoted(
     text: &mut Vec<u8>,
     line: u32,
     column: u32,
-    lines: &mut Lines<'_>,
+    lines: &mut SourceLineCursor<'_>,
 ) -> Result<(), AllocError>
     ensures text { OnOk result (text.new.items ≡ text.old.items ++ located_word_text lines.old line column) }
     ensures same { lines.new ≡ lines.old }
@@ -301,5 +301,5 @@ fn push_quoted(
     text.push(b':')?;
     push_number(text, column)?;
     text.extend_from_slice(b": ")?;
-    text.extend_from_slice(lines.from_column(line, column))
+    text.extend_from_slice(lines.line_from_column(line, column))
 }

@@ -5,8 +5,8 @@ use Rattle.std.specs.List.{range_with_len}
 use Rattle.std.proofs.lemmas.Grind.{flat_map-append}
 use Rattle.std.proofs.lemmas.List.{ext_get_or}
 use Rattle.std.proofs.lemmas.List.FromFn.{map-range_with_len_more, get_or-map-range_with_len, length-map-range_with_len}
-use Rattle.ga_word.specs.Word.{hex6_of}
-use Rattle.ga_text.specs.Digits.{words_text}
+use Rattle.ga_word.specs.Word.{hex_digits_of_word}
+use Rattle.ga_text.specs.Digits.{spaced_words_text}
 
 -- one piece more
 pub piece_more : (old said new text piece : List ℕ) → said ≡ old ++ text → new ≡ said ++ piece → new ≡ old ++ (text ++ piece)
@@ -26,10 +26,10 @@ abbrev pub first_words : ℕ → List ℕ → List ℕ
 first_words count words = map (λ place. slice_index words place) (range_with_len 0 count)
 
 -- one word more of a stack
-pub words_more : (count : ℕ) (words : List ℕ) → words_text (first_words (count + 1) words) ≡ words_text (first_words count words) ++ 32 ∷ hex6_of (slice_index words count)
+pub words_more : (count : ℕ) (words : List ℕ) → spaced_words_text (first_words (count + 1) words) ≡ spaced_words_text (first_words count words) ++ 32 ∷ hex_digits_of_word (slice_index words count)
 words_more count words =
-    ap words_text (map-range_with_len_more (λ place. slice_index words place) 0 count count (omega arith))
-    ∙ flat_map-append (λ word. 32 ∷ hex6_of word) (first_words count words) (slice_index words count ∷ [])
+    ap spaced_words_text (map-range_with_len_more (λ place. slice_index words place) 0 count count (omega arith))
+    ∙ flat_map-append (λ word. 32 ∷ hex_digits_of_word word) (first_words count words) (slice_index words count ∷ [])
 
 -- as many words as the stack has are all of them
 pub words_whole : (count : ℕ) (words : List ℕ) → length words ≡ count → first_words count words ≡ words

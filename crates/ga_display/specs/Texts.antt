@@ -2,7 +2,7 @@
 use Rattle.std.specs.Prelude.{ℕ, ◌==◌, if◌then◌else◌, List, [], ◌∷◌, ◌++◌, codes, decimal}
 use Rattle.std.specs.Int.{from_bool}
 use Rattle.ga_text.specs.Lines.{Text}
-use Rattle.ga_word.specs.Word.{hex6_of}
+use Rattle.ga_word.specs.Word.{hex_digits_of_word}
 use Rattle.ga_ports.specs.Address.{single_side_set, has_side}
 use Rattle.ga_ports.specs.declared.side.Side.{Side}
 use Rattle.ga_ports.specs.declared.side.Side.TheVariants.{Right, Down, Left, Up}
@@ -12,35 +12,35 @@ use Rattle.ga_node.specs.declared.wait.Wait.TheVariants as wait
 use Rattle.ga_node.specs.declared.kind.OwnEventKind.{OwnEventKind}
 use Rattle.ga_node.specs.declared.kind.OwnEventKind.TheVariants as kind
 use Rattle.ga_grid.specs.declared.node_id.NodeId.{NodeId}
-use Rattle.ga_image.specs.FirstFault.{cause_number, cause_word}
-use Rattle.ga_text.specs.Digits.{hex2_of, words_text, name_of_node, step_text}
+use Rattle.ga_image.specs.FirstFault.{image_cause_number, image_cause_word}
+use Rattle.ga_text.specs.Digits.{two_hex_digits_text, spaced_words_text, name_of_node, step_text}
 use Rattle.ga_image.specs.declared.fault.ImageFault.{ImageFault}
-use Rattle.ga_event.specs.declared.made.Made.{Made}
-use Rattle.ga_event.specs.declared.made.Made.TheVariants.{Own, Pass}
+use Rattle.ga_event.specs.declared.made.MadeEvent.{MadeEvent}
+use Rattle.ga_event.specs.declared.made.MadeEvent.TheVariants.{Own, Pass}
 use Rattle.ga_lab.specs.declared.fault.LabFault.{LabFault}
-use Rattle.ga_lab.specs.declared.fault.LabFault.TheVariants.{Waiting, Stopped, Full, Memory, Empty, NoStep, Spent}
+use Rattle.ga_lab.specs.declared.fault.LabFault.TheVariants.{Waiting, Stopped, Full, Memory, Empty, NoStep, EventNumbersSpent}
 use Rattle.ga_display.specs.declared.wording.RefusalWording.{RefusalWording}
 use Rattle.ga_display.specs.declared.wording.RefusalWording.TheVariants.{Brief, Advised}
 
 -- words with one space between two of them
-abbrev pub space_separated : List Text → Text
-space_separated [] = []
-space_separated (word ∷ []) = word
-space_separated (word ∷ more) = word ++ 32 ∷ space_separated more
+abbrev pub join_with_spaces : List Text → Text
+join_with_spaces [] = []
+join_with_spaces (word ∷ []) = word
+join_with_spaces (word ∷ more) = word ++ 32 ∷ join_with_spaces more
 
 -- ---- events
 
 abbrev pub own_event_kind_text : OwnEventKind → Text
 own_event_kind_text kind.Fetch = codes " fetch"
-own_event_kind_text (kind.Run code) = codes " run " ++ hex2_of code
+own_event_kind_text (kind.Run code) = codes " run " ++ two_hex_digits_text code
 own_event_kind_text kind.Wait = codes " wait"
 own_event_kind_text (kind.Stop number) = codes " stop " ++ decimal number
 
 -- a node's own event, or a word that was transferred from its writer to its reader
-abbrev pub event_text : Made → Text
+abbrev pub event_text : MadeEvent → Text
 event_text (Own node step kind) = step_text node step ++ own_event_kind_text kind ++ codes "\n"
 event_text (Pass writer writer_step reader reader_step word) =
-    codes "pass " ++ step_text writer writer_step ++ codes " " ++ step_text reader reader_step ++ codes " " ++ hex6_of word ++ codes "\n"
+    codes "pass " ++ step_text writer writer_step ++ codes " " ++ step_text reader reader_step ++ codes " " ++ hex_digits_of_word word ++ codes "\n"
 
 -- ---- the counts of the history
 
@@ -60,32 +60,32 @@ abbrev pub chain_header_text : ℕ → Text
 chain_header_text count = codes "chain " ++ decimal count ++ codes "\n"
 
 -- no chain leads from the one step to the other
-abbrev pub independent : Text
-independent = codes "independent\n"
+abbrev pub independent_steps_text : Text
+independent_steps_text = codes "independent\n"
 
 -- ---- a node
 
 -- the side's letter, if the set has it, else a hyphen
-abbrev pub side_text : ℕ → Side → Text → Text
-side_text sides side letter = if has_side sides side then letter else codes "-"
+abbrev pub side_letter_or_dash : ℕ → Side → Text → Text
+side_letter_or_dash sides side letter = if has_side sides side then letter else codes "-"
 
 -- right, down, left, up
-abbrev pub sides_text : ℕ → Text
-sides_text sides =
-    side_text sides Right (codes "r")
-    ++ side_text sides Down (codes "d")
-    ++ side_text sides Left (codes "l")
-    ++ side_text sides Up (codes "u")
+abbrev pub side_letters_text : ℕ → Text
+side_letters_text sides =
+    side_letter_or_dash sides Right (codes "r")
+    ++ side_letter_or_dash sides Down (codes "d")
+    ++ side_letter_or_dash sides Left (codes "l")
+    ++ side_letter_or_dash sides Up (codes "u")
 
 abbrev pub wait_or_stop_text : Wait → ℕ → Text
-wait_or_stop_text (wait.Fetch sides) stop = codes "fetch " ++ sides_text sides
-wait_or_stop_text (wait.Read sides) stop = codes "read " ++ sides_text sides
-wait_or_stop_text (wait.Write side) stop = codes "write " ++ sides_text (single_side_set side)
+wait_or_stop_text (wait.Fetch sides) stop = codes "fetch " ++ side_letters_text sides
+wait_or_stop_text (wait.Read sides) stop = codes "read " ++ side_letters_text sides
+wait_or_stop_text (wait.Write side) stop = codes "write " ++ side_letters_text (single_side_set side)
 wait_or_stop_text wait.Nothing stop = if stop == 0 then codes "run" else codes "stop " ++ decimal stop
 
 -- a register: its name and its value
 abbrev pub register_text : Text → ℕ → Text
-register_text name value = codes " " ++ name ++ (codes " " ++ hex6_of value)
+register_text name value = codes " " ++ name ++ (codes " " ++ hex_digits_of_word value)
 
 abbrev pub registers_text : NodeRecord → Text
 registers_text node =
@@ -94,20 +94,20 @@ registers_text node =
     ++ register_text (codes "b") node.b
     ++ register_text (codes "i") node.i
 
-abbrev pub flags_text : NodeRecord → Text
-flags_text node = codes " slot " ++ decimal node.slot ++ codes " carry " ++ decimal (from_bool node.carry) ++ codes " io " ++ hex6_of node.io
+abbrev pub slot_carry_io_text : NodeRecord → Text
+slot_carry_io_text node = codes " slot " ++ decimal node.slot ++ codes " carry " ++ decimal (from_bool node.carry) ++ codes " io " ++ hex_digits_of_word node.io
 
 -- the words of data and those of returns, the top of each first
 abbrev pub stacks_text : NodeRecord → Text
-stacks_text node = codes " d" ++ words_text node.d ++ codes " r" ++ words_text node.r
+stacks_text node = codes " d" ++ spaced_words_text node.d ++ codes " r" ++ spaced_words_text node.r
 
 abbrev pub node_text : NodeId → NodeRecord → Text
 node_text node at =
-    codes "node " ++ name_of_node node ++ codes " " ++ wait_or_stop_text at.wait at.stop ++ registers_text at ++ flags_text at ++ stacks_text at ++ codes "\n"
+    codes "node " ++ name_of_node node ++ codes " " ++ wait_or_stop_text at.wait at.stop ++ registers_text at ++ slot_carry_io_text at ++ stacks_text at ++ codes "\n"
 
 -- the word at an address of a node's memory
-abbrev pub memory_text : NodeId → ℕ → ℕ → Text
-memory_text node address word = codes "mem " ++ name_of_node node ++ codes " " ++ hex2_of address ++ codes " " ++ hex6_of word ++ codes "\n"
+abbrev pub memory_word_text : NodeId → ℕ → ℕ → Text
+memory_word_text node address word = codes "mem " ++ name_of_node node ++ codes " " ++ two_hex_digits_text address ++ codes " " ++ hex_digits_of_word word ++ codes "\n"
 
 -- ---- refusals
 
@@ -118,35 +118,35 @@ refusal_text Full = codes "no 3 full\n"
 refusal_text Memory = codes "no 4 memory\n"
 refusal_text Empty = codes "no 5 empty\n"
 refusal_text NoStep = codes "no 6 nostep\n"
-refusal_text Spent = codes "no 7 spent\n"
+refusal_text EventNumbersSpent = codes "no 7 spent\n"
 
 -- what is the case or what to do, and the line's end (docs/REFERENCE.md, "Exploring")
-abbrev pub advice_text : LabFault → Text
-advice_text Waiting = codes ": who shows for whom it waits\n"
-advice_text Stopped = codes ": whence NNN last shows why\n"
-advice_text Full = codes ": give a greater --limit; or save, dump, and go on from the dump\n"
-advice_text Memory = codes ": save, dump, and go on from the dump\n"
-advice_text Empty = codes ": the history has no event\n"
-advice_text NoStep = codes ": trace NNN lists the steps\n"
-advice_text Spent = codes ": dump, and go on from the dump\n"
+abbrev pub refusal_advice_text : LabFault → Text
+refusal_advice_text Waiting = codes ": who shows for whom it waits\n"
+refusal_advice_text Stopped = codes ": whence NNN last shows why\n"
+refusal_advice_text Full = codes ": give a greater --limit; or save, dump, and go on from the dump\n"
+refusal_advice_text Memory = codes ": save, dump, and go on from the dump\n"
+refusal_advice_text Empty = codes ": the history has no event\n"
+refusal_advice_text NoStep = codes ": trace NNN lists the steps\n"
+refusal_advice_text EventNumbersSpent = codes ": dump, and go on from the dump\n"
 
 -- a refusal in a session of exploring
 abbrev pub advised_refusal_text : LabFault → Text
-advised_refusal_text Waiting = codes "no 1 waiting" ++ advice_text Waiting
-advised_refusal_text Stopped = codes "no 2 stopped" ++ advice_text Stopped
-advised_refusal_text Full = codes "no 3 full" ++ advice_text Full
-advised_refusal_text Memory = codes "no 4 memory" ++ advice_text Memory
-advised_refusal_text Empty = codes "no 5 empty" ++ advice_text Empty
-advised_refusal_text NoStep = codes "no 6 nostep" ++ advice_text NoStep
-advised_refusal_text Spent = codes "no 7 spent" ++ advice_text Spent
+advised_refusal_text Waiting = codes "no 1 waiting" ++ refusal_advice_text Waiting
+advised_refusal_text Stopped = codes "no 2 stopped" ++ refusal_advice_text Stopped
+advised_refusal_text Full = codes "no 3 full" ++ refusal_advice_text Full
+advised_refusal_text Memory = codes "no 4 memory" ++ refusal_advice_text Memory
+advised_refusal_text Empty = codes "no 5 empty" ++ refusal_advice_text Empty
+advised_refusal_text NoStep = codes "no 6 nostep" ++ refusal_advice_text NoStep
+advised_refusal_text EventNumbersSpent = codes "no 7 spent" ++ refusal_advice_text EventNumbersSpent
 
 -- the word after a number of steps, and the line's end
-abbrev pub steps_word : ℕ → Text
-steps_word count = if count == 1 then codes " step\n" else codes " steps\n"
+abbrev pub step_or_steps_word : ℕ → Text
+step_or_steps_word count = if count == 1 then codes " step\n" else codes " steps\n"
 
 -- a refusal of a step that a node doesn't have, in a session of exploring: how many steps it has
 abbrev pub missing_step_text : NodeId → ℕ → Text
-missing_step_text node count = codes "no 6 nostep: " ++ name_of_node node ++ codes " has " ++ decimal count ++ steps_word count
+missing_step_text node count = codes "no 6 nostep: " ++ name_of_node node ++ codes " has " ++ decimal count ++ step_or_steps_word count
 
 -- a refused call about a step of a node that has `count` steps, in a session of exploring
 abbrev pub advised_step_refusal_text : NodeId → ℕ → LabFault → Text
@@ -156,7 +156,7 @@ advised_step_refusal_text node count Full = advised_refusal_text Full
 advised_step_refusal_text node count Memory = advised_refusal_text Memory
 advised_step_refusal_text node count Empty = advised_refusal_text Empty
 advised_step_refusal_text node count NoStep = missing_step_text node count
-advised_step_refusal_text node count Spent = advised_refusal_text Spent
+advised_step_refusal_text node count EventNumbersSpent = advised_refusal_text EventNumbersSpent
 
 -- the same in a session of this kind
 abbrev pub worded_step_refusal_text : RefusalWording → NodeId → ℕ → LabFault → Text
@@ -187,4 +187,4 @@ input_limit_refusal = codes "no 33 input\n"
 
 -- how an image is refused
 abbrev pub image_fault_text : ImageFault → Text
-image_fault_text fault = codes "no " ++ decimal (cause_number fault.cause) ++ codes " " ++ cause_word fault.cause ++ codes " line " ++ decimal fault.line ++ codes "\n"
+image_fault_text fault = codes "no " ++ decimal (image_cause_number fault.cause) ++ codes " " ++ image_cause_word fault.cause ++ codes " line " ++ decimal fault.line ++ codes "\n"

@@ -1,16 +1,16 @@
 //! The texts of events and of the list that keeps them.
 ghost use Rattle.std.specs.Prelude.{◌≡◌, ◌+◌, ◌≤◌, ◌<◌, ◌++◌, length, codes};
 ghost use Rattle.arrayvec.specs.ArrayVec.{array_vec_len};
-ghost use Rattle.ga_event.specs.declared.made.Made.TheVariants.{Own, Pass};
+ghost use Rattle.ga_event.specs.declared.made.MadeEvent.TheVariants.{Own, Pass};
 ghost use Rattle.ga_display.specs.Texts.{event_text, own_event_kind_text, refusal_text};
 
 use arrayvec::ArrayVec;
 use ga_grid::NodeId;
-use ga_lab::{LabFault, Made};
+use ga_lab::{LabFault, MadeEvent};
 use ga_node::OwnEventKind;
 use ga_text::{
-    MAX_LINE_BYTES, MAX_NUMBER_DIGITS, hex2, push_eight_digits, push_node_spaced, push_number,
-    push_spaced_word, push_step, push_text,
+    MAX_LINE_BYTES, MAX_NUMBER_DIGITS, push_node_and_space, push_number, push_spaced_word,
+    push_step, push_text, push_up_to_eight_digits, two_hex_digits,
 };
 use ga_word::Word18;
 
@@ -22,19 +22,19 @@ const KIND_ROOM: usize = b" stop \n".len() + MAX_NUMBER_DIGITS;
 
 /// Adds the text of an event.
 #[inline(always)]
-pub fn push_event_text<const ROOM: usize>(out: &mut ArrayVec<u8, ROOM>, made: Made)
+pub fn push_event_text<const ROOM: usize>(out: &mut ArrayVec<u8, ROOM>, made: MadeEvent)
     requires { array_vec_len out.old + MAX_LINE_BYTES ≤ ROOM }
     ensures { out.new.items ≡ out.old.items ++ event_text made }
 {
     match made {
-        Made::Own { node, step, kind } => {
+        MadeEvent::Own { node, step, kind } => {
             if step < 100_000_000 {
                 push_near(out, node, step, kind);
             } else {
                 push_far(out, node, step, kind);
             }
         }
-        Made::Pass {
+        MadeEvent::Pass {
             writer,
             writer_step,
             reader,
@@ -56,8 +56,8 @@ fn push_near<const ROOM: usize>(
     requires room { array_vec_len out.old + MAX_LINE_BYTES ≤ ROOM }
     ensures { out.new.items ≡ out.old.items ++ event_text (Own node step kind) }
 {
-    push_node_spaced(out, node);
-    push_eight_digits(out, u64::from(step));
+    push_node_and_space(out, node);
+    push_up_to_eight_digits(out, u64::from(step));
     push_kind(out, kind);
 }
 
@@ -102,7 +102,7 @@ fn push_kind<const ROOM: usize>(out: &mut ArrayVec<u8, ROOM>, kind: OwnEventKind
 {
     match kind {
         OwnEventKind::Run(code) => {
-            let [high, low] = hex2(code);
+            let [high, low] = two_hex_digits(code);
             push_text(out, &[b' ', b'r', b'u', b'n', b' ', high, low, b'\n']);
         }
         OwnEventKind::Fetch => push_text(out, &fetch()),
@@ -129,7 +129,7 @@ fn push_end<const ROOM: usize>(out: &mut ArrayVec<u8, ROOM>, kind: OwnEventKind)
     match kind {
         OwnEventKind::Fetch => push_text(out, b" fetch\n"),
         OwnEventKind::Run(code) => {
-            let [high, low] = hex2(code);
+            let [high, low] = two_hex_digits(code);
             push_text(out, &[b' ', b'r', b'u', b'n', b' ', high, low, b'\n']);
         }
         OwnEventKind::Wait => push_text(out, b" wait\n"),
@@ -153,6 +153,6 @@ pub fn refusal_text(fault: LabFault) -> &'static [u8]
         LabFault::Memory => b"no 4 memory\n",
         LabFault::Empty => b"no 5 empty\n",
         LabFault::NoStep => b"no 6 nostep\n",
-        LabFault::Spent => b"no 7 spent\n",
+        LabFault::EventNumbersSpent => b"no 7 spent\n",
     }
 }

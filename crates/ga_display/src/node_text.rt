@@ -1,18 +1,18 @@
 //! The texts of a node and of its memory.
 ghost use Rattle.std.specs.Prelude.{◌≡◌, ◌<◌, ◌+◌, ◌≤◌, ◌^◌, ◌++◌, length, codes};
 ghost use Rattle.arrayvec.specs.ArrayVec.{array_vec_len};
-ghost use Rattle.ga_word.specs.Word.{hex6_of};
-ghost use Rattle.ga_node.specs.Record.{record_of};
-ghost use Rattle.ga_text.specs.Digits.{words_text};
+ghost use Rattle.ga_word.specs.Word.{hex_digits_of_word};
+ghost use Rattle.ga_node.specs.Record.{record_of_node};
+ghost use Rattle.ga_text.specs.Digits.{spaced_words_text};
 ghost use Rattle.ga_text.specs.Output.{WritesExactly};
-ghost use Rattle.ga_display.specs.Texts.{node_text, memory_text, wait_or_stop_text, sides_text, register_text, registers_text, flags_text, stacks_text};
+ghost use Rattle.ga_display.specs.Texts.{node_text, memory_word_text, wait_or_stop_text, side_letters_text, register_text, registers_text, slot_carry_io_text, stacks_text};
 
 use arrayvec::ArrayVec;
 use ga_grid::NodeId;
-use ga_node::{Node, Place, Wait};
+use ga_node::{Node, NodePlace, Wait};
 use ga_text::{
-    MAX_LINE_BYTES, MAX_NUMBER_DIGITS, WORD_DIGITS, WriteResult, Writer, hex2, push_digit,
-    push_node_spaced, push_number, push_spaced_word, push_text, push_word,
+    MAX_LINE_BYTES, MAX_NUMBER_DIGITS, WORD_DIGITS, WriteResult, Writer, push_decimal_digit,
+    push_node_and_space, push_number, push_spaced_word, push_text, push_word, two_hex_digits,
 };
 use ga_word::Word18;
 use std::io::Write;
@@ -51,7 +51,7 @@ const STACKS_ROOM: usize = b" d".len() + DATA_ROOM + b" r".len() + RETURNS_ROOM;
 /// # Errors
 /// A write failed.
 pub fn write_node<W: Write>(writer: &mut Writer<'_, W>, node: NodeId, at: &Node) -> WriteResult
-    ensures { WritesExactly result (node_text node (record_of at.now)) W.contents writer.old writer.new }
+    ensures { WritesExactly result (node_text node (record_of_node at.now)) W.contents writer.old writer.new }
 {
     writer.make_room(MAX_LINE_BYTES)?;
     push_node_line(&mut writer.pending, node, at);
@@ -61,10 +61,10 @@ pub fn write_node<W: Write>(writer: &mut Writer<'_, W>, node: NodeId, at: &Node)
 /// Adds the text of a node.
 fn push_node_line<const ROOM: usize>(out: &mut ArrayVec<u8, ROOM>, node: NodeId, at: &Node)
     requires { array_vec_len out.old + MAX_LINE_BYTES ≤ ROOM }
-    ensures { out.new.items ≡ out.old.items ++ node_text node (record_of at.now) }
+    ensures { out.new.items ≡ out.old.items ++ node_text node (record_of_node at.now) }
 {
     push_text(out, b"node ");
-    push_node_spaced(out, node);
+    push_node_and_space(out, node);
     push_state(out, at);
     push_registers(out, at);
     push_flags(out, at);
@@ -76,19 +76,19 @@ fn push_node_line<const ROOM: usize>(out: &mut ArrayVec<u8, ROOM>, node: NodeId,
 ///
 /// # Errors
 /// A write failed.
-pub fn write_memory<W: Write>(
+pub fn write_memory_word<W: Write>(
     writer: &mut Writer<'_, W>,
     node: NodeId,
     address: u8,
     word: Word18,
 ) -> WriteResult
-    ensures { WritesExactly result (memory_text node address word) W.contents writer.old writer.new }
+    ensures { WritesExactly result (memory_word_text node address word) W.contents writer.old writer.new }
 {
     writer.make_room(MAX_LINE_BYTES)?;
     let out = &mut writer.pending;
     push_text(out, b"mem ");
-    push_node_spaced(out, node);
-    push_text(out, &hex2(address));
+    push_node_and_space(out, node);
+    push_text(out, &two_hex_digits(address));
     push_spaced_word(out, word);
     push_text(out, b"\n");
     Ok(())
@@ -97,7 +97,7 @@ pub fn write_memory<W: Write>(
 /// Adds whether the node runs, what it waits for, or how it is stopped.
 fn push_state<const ROOM: usize>(out: &mut ArrayVec<u8, ROOM>, node: &Node)
     requires { array_vec_len out.old + STATE_ROOM ≤ ROOM }
-    ensures text { out.new.items ≡ out.old.items ++ wait_or_stop_text (record_of node.now).wait (record_of node.now).stop }
+    ensures text { out.new.items ≡ out.old.items ++ wait_or_stop_text (record_of_node node.now).wait (record_of_node node.now).stop }
     ensures len { array_vec_len out.new ≤ array_vec_len out.old + STATE_ROOM }
 {
     match node.wait() {
@@ -112,7 +112,7 @@ fn push_state<const ROOM: usize>(out: &mut ArrayVec<u8, ROOM>, node: &Node)
         }
         Wait::Write(side) => {
             push_text(out, b"write ");
-            push_set(out, side.bit());
+            push_set(out, side.bit_in_set());
         }
     }
 }
@@ -133,7 +133,7 @@ fn push_stop<const ROOM: usize>(out: &mut ArrayVec<u8, ROOM>, stop: u8)
 /// Adds a set of sides, given by its number.
 fn push_set<const ROOM: usize>(out: &mut ArrayVec<u8, ROOM>, sides: u8)
     requires { array_vec_len out.old + SET_ROOM ≤ ROOM }
-    ensures text { out.new.items ≡ out.old.items ++ sides_text sides }
+    ensures text { out.new.items ≡ out.old.items ++ side_letters_text sides }
     ensures len { array_vec_len out.new ≡ array_vec_len out.old + SET_ROOM }
 {
     let letters = [
@@ -146,16 +146,16 @@ fn push_set<const ROOM: usize>(out: &mut ArrayVec<u8, ROOM>, sides: u8)
 }
 
 /// Adds P, A, B and I.
-#[tactic(auto, unfolding(ga_node::specs::Record::record_of))]
+#[tactic(auto, unfolding(ga_node::specs::Record::record_of_node))]
 fn push_registers<const ROOM: usize>(out: &mut ArrayVec<u8, ROOM>, node: &Node)
     requires { array_vec_len out.old + REGISTERS_ROOM ≤ ROOM }
-    ensures text { out.new.items ≡ out.old.items ++ registers_text (record_of node.now) }
+    ensures text { out.new.items ≡ out.old.items ++ registers_text (record_of_node node.now) }
     ensures len { array_vec_len out.new ≡ array_vec_len out.old + REGISTERS_ROOM }
 {
-    push_register(out, b"p", node.get(Place::P));
-    push_register(out, b"a", node.get(Place::A));
-    push_register(out, b"b", node.get(Place::B));
-    push_register(out, b"i", node.get(Place::I));
+    push_register(out, b"p", node.get(NodePlace::P));
+    push_register(out, b"a", node.get(NodePlace::A));
+    push_register(out, b"b", node.get(NodePlace::B));
+    push_register(out, b"i", node.get(NodePlace::I));
 }
 
 /// Adds a register: its name, and its value as a word.
@@ -170,33 +170,33 @@ fn push_register<const ROOM: usize>(out: &mut ArrayVec<u8, ROOM>, name: &[u8; 1]
 }
 
 /// Adds the slot, the carry and `io`.
-#[tactic(auto, unfolding(ga_node::specs::Record::record_of))]
+#[tactic(auto, unfolding(ga_node::specs::Record::record_of_node))]
 fn push_flags<const ROOM: usize>(out: &mut ArrayVec<u8, ROOM>, node: &Node)
     requires { array_vec_len out.old + FLAGS_ROOM ≤ ROOM }
-    ensures text { out.new.items ≡ out.old.items ++ flags_text (record_of node.now) }
+    ensures text { out.new.items ≡ out.old.items ++ slot_carry_io_text (record_of_node node.now) }
     ensures len { array_vec_len out.new ≡ array_vec_len out.old + FLAGS_ROOM }
 {
     push_text(out, b" slot ");
-    push_digit(out, node.get(Place::Slot) as u8);
+    push_decimal_digit(out, node.get(NodePlace::Slot) as u8);
     push_text(out, b" carry ");
-    push_digit(out, node.get(Place::Carry) as u8);
+    push_decimal_digit(out, node.get(NodePlace::Carry) as u8);
     push_text(out, b" io ");
-    push_word(out, Word18::from_low_bits(node.get(Place::Io)));
+    push_word(out, Word18::from_low_bits(node.get(NodePlace::Io)));
 }
 
 /// Adds both stacks, the top of each first.
 fn push_stacks<const ROOM: usize>(out: &mut ArrayVec<u8, ROOM>, node: &Node)
     requires { array_vec_len out.old + STACKS_ROOM ≤ ROOM }
-    ensures text { out.new.items ≡ out.old.items ++ stacks_text (record_of node.now) }
+    ensures text { out.new.items ≡ out.old.items ++ stacks_text (record_of_node node.now) }
     ensures len { array_vec_len out.new ≡ array_vec_len out.old + STACKS_ROOM }
 {
     push_text(out, b" d");
     'data: for place in 0..DATA_WORDS {
-        push_value(out, node.d(place));
+        push_value(out, node.word_of_data_stack(place));
     }
     push_text(out, b" r");
     'returns: for place in 0..RETURN_WORDS {
-        push_value(out, node.r(place));
+        push_value(out, node.word_of_return_stack(place));
     }
 }
 
@@ -204,7 +204,7 @@ fn push_stacks<const ROOM: usize>(out: &mut ArrayVec<u8, ROOM>, node: &Node)
 fn push_value<const ROOM: usize>(out: &mut ArrayVec<u8, ROOM>, value: u32)
     requires small { value < 2 ^ 18 }
     requires room { array_vec_len out.old + 1 + WORD_DIGITS ≤ ROOM }
-    ensures text { out.new.items ≡ out.old.items ++ (codes " " ++ hex6_of value) }
+    ensures text { out.new.items ≡ out.old.items ++ (codes " " ++ hex_digits_of_word value) }
     ensures len { array_vec_len out.new ≡ array_vec_len out.old + 1 + WORD_DIGITS }
 {
     push_spaced_word(out, Word18::from_low_bits(value));

@@ -1,6 +1,6 @@
 //! How refusals are worded.
 ghost use Rattle.std.specs.Prelude.{◌≡◌, ◌≤◌, length};
-ghost use Rattle.ga_display.specs.Texts.{advice_text, advised_refusal_text, advised_step_refusal_text, missing_step_text, steps_word, worded_long_line_refusal, worded_refusal_text, worded_step_refusal_text};
+ghost use Rattle.ga_display.specs.Texts.{refusal_advice_text, advised_refusal_text, advised_step_refusal_text, missing_step_text, step_or_steps_word, worded_long_line_refusal, worded_refusal_text, worded_step_refusal_text};
 
 use crate::event::refusal_text;
 use arrayvec::ArrayVec;
@@ -20,7 +20,7 @@ pub enum RefusalWording {
 impl RefusalWording {
     /// The text of a refused call.
     #[inline(always)]
-    pub fn refusal(self, fault: LabFault) -> &'static [u8]
+    pub fn refusal_in_wording(self, fault: LabFault) -> &'static [u8]
         ensures text { result.now ≡ worded_refusal_text self fault }
         ensures len { length result.now ≤ MAX_LINE_BYTES }
     {
@@ -73,7 +73,7 @@ pub fn advised_step_refusal(fault: LabFault, node: NodeId, count: u32) -> TextBu
         LabFault::Full => buffered(advised_refusal_text(LabFault::Full)),
         LabFault::Memory => buffered(advised_refusal_text(LabFault::Memory)),
         LabFault::Empty => buffered(advised_refusal_text(LabFault::Empty)),
-        LabFault::Spent => buffered(advised_refusal_text(LabFault::Spent)),
+        LabFault::EventNumbersSpent => buffered(advised_refusal_text(LabFault::EventNumbersSpent)),
     }
 }
 
@@ -86,13 +86,13 @@ pub fn missing_step_refusal(node: NodeId, count: u32) -> TextBuffer
     push_node(&mut out, node);
     push_text(&mut out, b" has ");
     push_number(&mut out, u64::from(count));
-    push_text(&mut out, steps_word(count));
+    push_text(&mut out, step_or_steps_word(count));
     out
 }
 
 /// The word after a number of steps, and the line's end.
-fn steps_word(count: u32) -> &'static [u8]
-    ensures text { result.now ≡ steps_word count }
+fn step_or_steps_word(count: u32) -> &'static [u8]
+    ensures text { result.now ≡ step_or_steps_word count }
     ensures len { length result.now ≤ 7 }
 {
     if count == 1 { b" step\n" } else { b" steps\n" }
@@ -112,13 +112,13 @@ pub fn advised_refusal_text(fault: LabFault) -> &'static [u8]
         LabFault::Stopped => b"no 2 stopped: whence NNN last shows why\n",
         LabFault::Empty => b"no 5 empty: the history has no event\n",
         LabFault::NoStep => b"no 6 nostep: trace NNN lists the steps\n",
-        LabFault::Spent => b"no 7 spent: dump, and go on from the dump\n",
+        LabFault::EventNumbersSpent => b"no 7 spent: dump, and go on from the dump\n",
     }
 }
 
 /// What to do where a run ends for this reason, and the line's end.
-pub fn advice_text(fault: LabFault) -> &'static [u8]
-    ensures text { result.now ≡ advice_text fault }
+pub fn refusal_advice_text(fault: LabFault) -> &'static [u8]
+    ensures text { result.now ≡ refusal_advice_text fault }
     ensures len { length result.now ≤ 80 }
 {
     match fault {
@@ -128,6 +128,6 @@ pub fn advice_text(fault: LabFault) -> &'static [u8]
         LabFault::Stopped => b": whence NNN last shows why\n",
         LabFault::Empty => b": the history has no event\n",
         LabFault::NoStep => b": trace NNN lists the steps\n",
-        LabFault::Spent => b": dump, and go on from the dump\n",
+        LabFault::EventNumbersSpent => b": dump, and go on from the dump\n",
     }
 }

@@ -8,8 +8,8 @@ ghost use Rattle.ga_display.specs.Texts.{event_text, removed_events_text, event_
 use super::event::push_event_text;
 use arrayvec::ArrayVec;
 use ga_grid::NodeId;
-use ga_lab::{EventCounts, Made};
-use ga_text::{MAX_LINE_BYTES, WriteResult, Writer, push_node_spaced, push_number, push_text};
+use ga_lab::{EventCountsAndLimit, MadeEvent};
+use ga_text::{MAX_LINE_BYTES, WriteResult, Writer, push_node_and_space, push_number, push_text};
 use std::io::Write;
 
 /// Writes how many events were removed and how many are kept, as `write_text` does.
@@ -45,7 +45,7 @@ fn push_removed<const ROOM: usize>(out: &mut ArrayVec<u8, ROOM>, removed: u32, k
 /// # Errors
 /// A write failed.
 #[inline(always)]
-pub fn write_event<W: Write>(writer: &mut Writer<'_, W>, made: Made) -> WriteResult
+pub fn write_event<W: Write>(writer: &mut Writer<'_, W>, made: MadeEvent) -> WriteResult
     ensures { WritesExactly result (event_text made) W.contents writer.old writer.new }
 {
     writer.make_room(MAX_LINE_BYTES)?;
@@ -57,7 +57,10 @@ pub fn write_event<W: Write>(writer: &mut Writer<'_, W>, made: Made) -> WriteRes
 ///
 /// # Errors
 /// A write failed.
-pub fn write_event_counts<W: Write>(writer: &mut Writer<'_, W>, counts: EventCounts) -> WriteResult
+pub fn write_event_counts<W: Write>(
+    writer: &mut Writer<'_, W>,
+    counts: EventCountsAndLimit,
+) -> WriteResult
     ensures { WritesExactly result (event_counts_text counts.kept counts.made counts.limit) W.contents writer.old writer.new }
 {
     writer.make_room(MAX_LINE_BYTES)?;
@@ -86,7 +89,7 @@ pub fn write_trace_head<W: Write>(
     writer.make_room(MAX_LINE_BYTES)?;
     let out = &mut writer.pending;
     push_text(out, b"trace ");
-    push_node_spaced(out, node);
+    push_node_and_space(out, node);
     push_number(out, count as u64);
     push_text(out, b"\n");
     Ok(())

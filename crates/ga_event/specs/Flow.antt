@@ -4,18 +4,18 @@ use Rattle.std.specs.Prelude.{ℕ, ◌+◌, ◌-◌, ◌/◌, ◌^◌, ◌==◌,
 use Rattle.ga_word.specs.Word.{carry_value}
 use Rattle.ga_slots.specs.declared.op.Op.{Op}
 use Rattle.ga_slots.specs.declared.op.Op.TheVariants.{Return, Execute, Jump, Call, Unext, Next, If, MinusIf, FetchP, FetchPlus, FetchB, Fetch, StoreP, StorePlus, StoreB, Store, MultiplyStep, TwoStar, TwoSlash, Invert, Plus, And, Or, Drop, Dup, Pop, Over, A, Nop, Push, BStore, AStore}
-use Rattle.ga_ports.specs.Address.{address_target, is_single_side}
+use Rattle.ga_ports.specs.Address.{address_target, is_single_side_set}
 use Rattle.ga_ports.specs.declared.address.AddressTarget.{AddressTarget}
 use Rattle.ga_ports.specs.declared.address.AddressTarget.TheVariants.{Ram, Rom, Io, Ports, Bad}
 use Rattle.ga_node.specs.Record.{NodeRecord}
 use Rattle.ga_node.specs.State.{wait_code}
-use Rattle.ga_node.specs.Table.{t, r, is_extended, next_action_of}
-use Rattle.ga_event.specs.declared.flow.choice.ActionChoice.{ActionChoice}
-use Rattle.ga_event.specs.declared.flow.choice.ActionChoice.TheVariants.{Plain, Test, At}
+use Rattle.ga_node.specs.Table.{register_t, register_r, has_extended_arithmetic, next_action_of_node}
+use Rattle.ga_event.specs.declared.flow.choice.DecidingTestOrTarget.{DecidingTestOrTarget}
+use Rattle.ga_event.specs.declared.flow.choice.DecidingTestOrTarget.TheVariants.{Plain, TestResult, TargetChoice}
 use Rattle.ga_event.specs.declared.flow.part.NodePart.{NodePart}
-use Rattle.ga_event.specs.declared.flow.part.NodePart.TheVariants.{Data as OfD, Return as OfR, Ram as OfRam, Rom as OfRom, A as OfA, B as OfB, P as OfP, I as OfI, Io as OfIo, Carry as OfCarry, Slot as OfSlot, Wait as OfWait, Stop as OfStop, Outside}
-use Rattle.ga_event.specs.declared.flow.Flow.{Flow as KeptFlow}
-use Rattle.ga_event.specs.declared.flow.Flow.TheVariants as flow
+use Rattle.ga_event.specs.declared.flow.part.NodePart.TheVariants.{Data as OfD, Return as OfR, Ram as OfRam, Rom as OfRom, A as OfA, B as OfB, P as OfP, I as OfI, Io as OfIo, Carry as OfCarry, Slot as OfSlot, Wait as OfWait, Stop as OfStop, OutsideWord}
+use Rattle.ga_event.specs.declared.flow.ValueFlow.{ValueFlow as KeptFlow}
+use Rattle.ga_event.specs.declared.flow.ValueFlow.TheVariants as flow
 use Rattle.ga_node.specs.declared.due.NextAction.{NextAction}
 use Rattle.ga_node.specs.declared.due.NextAction.TheVariants as due
 use Rattle.ga_node.specs.declared.wait.Wait.{Wait}
@@ -24,106 +24,106 @@ use Rattle.ga_node.specs.declared.wait.Wait.TheVariants as wait
 -- ---- the parts of a node
 
 -- T, S and R
-abbrev pub top : NodePart
-top = OfD 0
+abbrev pub top_data_part : NodePart
+top_data_part = OfD 0
 
-abbrev pub second : NodePart
-second = OfD 1
+abbrev pub second_data_part : NodePart
+second_data_part = OfD 1
 
-abbrev pub top_return : NodePart
-top_return = OfR 0
+abbrev pub top_return_part : NodePart
+top_return_part = OfR 0
 
 -- the value of a part of a node, where this word comes from outside
-abbrev pub part_value : ℕ → NodeRecord → NodePart → ℕ
-part_value word n (OfD k) = slice_index n.d k
-part_value word n (OfR k) = slice_index n.r k
-part_value word n (OfRam k) = slice_index n.ram k
-part_value word n (OfRom k) = slice_index n.rom k
-part_value word n OfA = n.a
-part_value word n OfB = n.b
-part_value word n OfP = n.p
-part_value word n OfI = n.i
-part_value word n OfIo = n.io
-part_value word n OfCarry = carry_value n.carry
-part_value word n OfSlot = n.slot
-part_value word n OfWait = wait_code n.wait
-part_value word n OfStop = n.stop
-part_value word n Outside = word
+abbrev pub node_part_value : ℕ → NodeRecord → NodePart → ℕ
+node_part_value word n (OfD k) = slice_index n.d k
+node_part_value word n (OfR k) = slice_index n.r k
+node_part_value word n (OfRam k) = slice_index n.ram k
+node_part_value word n (OfRom k) = slice_index n.rom k
+node_part_value word n OfA = n.a
+node_part_value word n OfB = n.b
+node_part_value word n OfP = n.p
+node_part_value word n OfI = n.i
+node_part_value word n OfIo = n.io
+node_part_value word n OfCarry = carry_value n.carry
+node_part_value word n OfSlot = n.slot
+node_part_value word n OfWait = wait_code n.wait
+node_part_value word n OfStop = n.stop
+node_part_value word n OutsideWord = word
 
 -- a part that each node has
-abbrev pub IsNodePart : NodePart → Type 0
-IsNodePart (OfD k) = k < 10
-IsNodePart (OfR k) = k < 9
-IsNodePart (OfRam k) = k < 64
-IsNodePart (OfRom k) = k < 64
-IsNodePart Outside = ⊥
-IsNodePart _ = Unit {0}
+abbrev pub IsNodePartInRange : NodePart → Type 0
+IsNodePartInRange (OfD k) = k < 10
+IsNodePartInRange (OfR k) = k < 9
+IsNodePartInRange (OfRam k) = k < 64
+IsNodePartInRange (OfRom k) = k < 64
+IsNodePartInRange OutsideWord = ⊥
+IsNodePartInRange _ = Unit {0}
 
 -- Where a value comes from: it is that of a part before, or it is computed from these parts alone, given what decides the event.
-pub data Flow : Type 0 where
-  Same : NodePart → Flow
-  From : List NodePart → Flow
+pub data ValueFlow : Type 0 where
+  CopiedFromPart : NodePart → ValueFlow
+  From : List NodePart → ValueFlow
 
 -- ---- the changes of Changes.antt, each with the flow of its word
 
-pub data FlowMove : Type 0 where
-  PushData : Flow → FlowMove
-  PopData : FlowMove
-  SetTop : Flow → FlowMove
-  PopTo : Flow → FlowMove
-  PushReturn : Flow → FlowMove
-  PopReturn : FlowMove
-  SetTopReturn : Flow → FlowMove
-  SetP : Flow → FlowMove
-  SetA : Flow → FlowMove
-  SetB : Flow → FlowMove
-  SetI : Flow → FlowMove
-  SetIo : Flow → FlowMove
-  SetCarry : Flow → FlowMove
-  SetRam : ℕ → Flow → FlowMove
-  GoOn : FlowMove
-  Skip : FlowMove
-  StartAgain : FlowMove
-  SetWait : FlowMove
-  SetStop : FlowMove
+pub data FlowChange : Type 0 where
+  PushData : ValueFlow → FlowChange
+  PopData : FlowChange
+  SetTop : ValueFlow → FlowChange
+  PopThenSetTop : ValueFlow → FlowChange
+  PushReturn : ValueFlow → FlowChange
+  PopReturn : FlowChange
+  SetTopReturn : ValueFlow → FlowChange
+  SetP : ValueFlow → FlowChange
+  SetA : ValueFlow → FlowChange
+  SetB : ValueFlow → FlowChange
+  SetI : ValueFlow → FlowChange
+  SetIo : ValueFlow → FlowChange
+  SetCarry : ValueFlow → FlowChange
+  SetRam : ℕ → ValueFlow → FlowChange
+  AdvanceSlot : FlowChange
+  SkipRestOfWord : FlowChange
+  ReturnToFirstSlot : FlowChange
+  SetWait : FlowChange
+  SetStop : FlowChange
 
 -- where the value of each part comes from
 abbrev pub PartFlows : Type 0
-PartFlows = NodePart → Flow
+PartFlows = NodePart → ValueFlow
 
 -- the number of a kind of part, and the place or the cell
-abbrev pub part_kind : NodePart → ℕ
-part_kind (OfD k) = 0
-part_kind (OfR k) = 1
-part_kind (OfRam k) = 2
-part_kind (OfRom k) = 3
-part_kind OfA = 4
-part_kind OfB = 5
-part_kind OfP = 6
-part_kind OfI = 7
-part_kind OfIo = 8
-part_kind OfCarry = 9
-part_kind OfSlot = 10
-part_kind OfWait = 11
-part_kind OfStop = 12
-part_kind Outside = 13
+abbrev pub kind_of_node_part : NodePart → ℕ
+kind_of_node_part (OfD k) = 0
+kind_of_node_part (OfR k) = 1
+kind_of_node_part (OfRam k) = 2
+kind_of_node_part (OfRom k) = 3
+kind_of_node_part OfA = 4
+kind_of_node_part OfB = 5
+kind_of_node_part OfP = 6
+kind_of_node_part OfI = 7
+kind_of_node_part OfIo = 8
+kind_of_node_part OfCarry = 9
+kind_of_node_part OfSlot = 10
+kind_of_node_part OfWait = 11
+kind_of_node_part OfStop = 12
+kind_of_node_part OutsideWord = 13
 
-abbrev pub part_index : NodePart → ℕ
-part_index (OfD k) = k
-part_index (OfR k) = k
-part_index (OfRam k) = k
-part_index (OfRom k) = k
-part_index _ = 0
+abbrev pub index_of_node_part : NodePart → ℕ
+index_of_node_part (OfD k) = k
+index_of_node_part (OfR k) = k
+index_of_node_part (OfRam k) = k
+index_of_node_part (OfRom k) = k
+index_of_node_part _ = 0
 
-abbrev pub is_equal_to : NodePart → NodePart → Bool
-is_equal_to part other = part_kind part == part_kind other && part_index part == part_index other
+abbrev pub is_same_node_part : NodePart → NodePart → Bool
+is_same_node_part part other = kind_of_node_part part == kind_of_node_part other && index_of_node_part part == index_of_node_part other
 
 -- another flow at a part; and each stack's words after a push, and after a pop, which copies the third word of data and the second
 -- return to the last place
-abbrev pub with_flow : NodePart → Flow → PartFlows → PartFlows
-with_flow at flow f part = if is_equal_to part at then flow else f part
+abbrev pub flows_with_replaced_part : NodePart → ValueFlow → PartFlows → PartFlows
+flows_with_replaced_part at flow f part = if is_same_node_part part at then flow else f part
 
-abbrev pub flows_after_data_push : Flow → PartFlows → PartFlows
+abbrev pub flows_after_data_push : ValueFlow → PartFlows → PartFlows
 flows_after_data_push flow f (OfD k) = if k == 0 then flow else f (OfD (k - 1))
 flows_after_data_push flow f part = f part
 
@@ -131,7 +131,7 @@ abbrev pub flows_after_data_pop : PartFlows → PartFlows
 flows_after_data_pop f (OfD k) = if k == 9 then f (OfD 2) else f (OfD (k + 1))
 flows_after_data_pop f part = f part
 
-abbrev pub flows_after_return_push : Flow → PartFlows → PartFlows
+abbrev pub flows_after_return_push : ValueFlow → PartFlows → PartFlows
 flows_after_return_push flow f (OfR k) = if k == 0 then flow else f (OfR (k - 1))
 flows_after_return_push flow f part = f part
 
@@ -140,62 +140,62 @@ flows_after_return_pop f (OfR k) = if k == 8 then f (OfR 1) else f (OfR (k + 1))
 flows_after_return_pop f part = f part
 
 -- the flow of what is computed from a value of this flow
-abbrev pub computed_flow : Flow → Flow
-computed_flow (Same part) = From (part ∷ [])
+abbrev pub computed_flow : ValueFlow → ValueFlow
+computed_flow (CopiedFromPart part) = From (part ∷ [])
 computed_flow (From parts) = From parts
 
-abbrev pub flows_after_move : FlowMove → PartFlows → PartFlows
-flows_after_move (PushData flow) f = flows_after_data_push flow f
-flows_after_move PopData f = flows_after_data_pop f
-flows_after_move (SetTop flow) f = with_flow top flow f
-flows_after_move (PopTo flow) f = with_flow top flow (flows_after_data_pop f)
-flows_after_move (PushReturn flow) f = flows_after_return_push flow f
-flows_after_move PopReturn f = flows_after_return_pop f
-flows_after_move (SetTopReturn flow) f = with_flow top_return flow f
-flows_after_move (SetP flow) f = with_flow OfP flow f
-flows_after_move (SetA flow) f = with_flow OfA flow f
-flows_after_move (SetB flow) f = with_flow OfB flow f
-flows_after_move (SetI flow) f = with_flow OfI flow f
-flows_after_move (SetIo flow) f = with_flow OfIo flow f
-flows_after_move (SetCarry flow) f = with_flow OfCarry flow f
-flows_after_move (SetRam cell flow) f = with_flow (OfRam cell) flow f
-flows_after_move GoOn f = with_flow OfSlot (computed_flow (f OfSlot)) f
-flows_after_move Skip f = with_flow OfSlot (From []) f
-flows_after_move StartAgain f = with_flow OfSlot (From []) f
-flows_after_move SetWait f = with_flow OfWait (From []) f
-flows_after_move SetStop f = with_flow OfStop (From []) f
+abbrev pub flows_after_change : FlowChange → PartFlows → PartFlows
+flows_after_change (PushData flow) f = flows_after_data_push flow f
+flows_after_change PopData f = flows_after_data_pop f
+flows_after_change (SetTop flow) f = flows_with_replaced_part top_data_part flow f
+flows_after_change (PopThenSetTop flow) f = flows_with_replaced_part top_data_part flow (flows_after_data_pop f)
+flows_after_change (PushReturn flow) f = flows_after_return_push flow f
+flows_after_change PopReturn f = flows_after_return_pop f
+flows_after_change (SetTopReturn flow) f = flows_with_replaced_part top_return_part flow f
+flows_after_change (SetP flow) f = flows_with_replaced_part OfP flow f
+flows_after_change (SetA flow) f = flows_with_replaced_part OfA flow f
+flows_after_change (SetB flow) f = flows_with_replaced_part OfB flow f
+flows_after_change (SetI flow) f = flows_with_replaced_part OfI flow f
+flows_after_change (SetIo flow) f = flows_with_replaced_part OfIo flow f
+flows_after_change (SetCarry flow) f = flows_with_replaced_part OfCarry flow f
+flows_after_change (SetRam cell flow) f = flows_with_replaced_part (OfRam cell) flow f
+flows_after_change AdvanceSlot f = flows_with_replaced_part OfSlot (computed_flow (f OfSlot)) f
+flows_after_change SkipRestOfWord f = flows_with_replaced_part OfSlot (From []) f
+flows_after_change ReturnToFirstSlot f = flows_with_replaced_part OfSlot (From []) f
+flows_after_change SetWait f = flows_with_replaced_part OfWait (From []) f
+flows_after_change SetStop f = flows_with_replaced_part OfStop (From []) f
 
-abbrev pub flows_after_moves : List FlowMove → PartFlows → PartFlows
-flows_after_moves [] f = f
-flows_after_moves (move ∷ rest) f = flows_after_moves rest (flows_after_move move f)
+abbrev pub flows_after_changes : List FlowChange → PartFlows → PartFlows
+flows_after_changes [] f = f
+flows_after_changes (move ∷ rest) f = flows_after_changes rest (flows_after_change move f)
 
 -- ---- what decides an event
 
 -- what decides an event besides its opcode: a test, or the target of an address
-abbrev pub choice : NextAction → NodeRecord → ActionChoice
-choice due.Fetch n = At (address_target n.p)
-choice (due.Run Unext) n = Test (r n == 0)
-choice (due.Run Next) n = Test (r n == 0)
-choice (due.Run If) n = Test (t n == 0)
-choice (due.Run MinusIf) n = Test (t n / 2 ^ 17 == 0)
-choice (due.Run Plus) n = Test (is_extended n)
-choice (due.Run FetchP) n = At (address_target n.p)
-choice (due.Run FetchPlus) n = At (address_target n.a)
-choice (due.Run FetchB) n = At (address_target n.b)
-choice (due.Run Fetch) n = At (address_target n.a)
-choice (due.Run StoreP) n = At (address_target n.p)
-choice (due.Run StorePlus) n = At (address_target n.a)
-choice (due.Run StoreB) n = At (address_target n.b)
-choice (due.Run Store) n = At (address_target n.a)
-choice (due.Run _) n = Plain
+abbrev pub deciding_test_or_target : NextAction → NodeRecord → DecidingTestOrTarget
+deciding_test_or_target due.Fetch n = TargetChoice (address_target n.p)
+deciding_test_or_target (due.Run Unext) n = TestResult (register_r n == 0)
+deciding_test_or_target (due.Run Next) n = TestResult (register_r n == 0)
+deciding_test_or_target (due.Run If) n = TestResult (register_t n == 0)
+deciding_test_or_target (due.Run MinusIf) n = TestResult (register_t n / 2 ^ 17 == 0)
+deciding_test_or_target (due.Run Plus) n = TestResult (has_extended_arithmetic n)
+deciding_test_or_target (due.Run FetchP) n = TargetChoice (address_target n.p)
+deciding_test_or_target (due.Run FetchPlus) n = TargetChoice (address_target n.a)
+deciding_test_or_target (due.Run FetchB) n = TargetChoice (address_target n.b)
+deciding_test_or_target (due.Run Fetch) n = TargetChoice (address_target n.a)
+deciding_test_or_target (due.Run StoreP) n = TargetChoice (address_target n.p)
+deciding_test_or_target (due.Run StorePlus) n = TargetChoice (address_target n.a)
+deciding_test_or_target (due.Run StoreB) n = TargetChoice (address_target n.b)
+deciding_test_or_target (due.Run Store) n = TargetChoice (address_target n.a)
+deciding_test_or_target (due.Run _) n = Plain
 
 -- the parts that decide an event besides its opcode
 abbrev pub deciding_parts : NextAction → List NodePart
 deciding_parts due.Fetch = OfP ∷ []
-deciding_parts (due.Run Unext) = top_return ∷ []
-deciding_parts (due.Run Next) = top_return ∷ []
-deciding_parts (due.Run If) = top ∷ []
-deciding_parts (due.Run MinusIf) = top ∷ []
+deciding_parts (due.Run Unext) = top_return_part ∷ []
+deciding_parts (due.Run Next) = top_return_part ∷ []
+deciding_parts (due.Run If) = top_data_part ∷ []
+deciding_parts (due.Run MinusIf) = top_data_part ∷ []
 deciding_parts (due.Run Plus) = OfP ∷ []
 deciding_parts (due.Run FetchP) = OfP ∷ []
 deciding_parts (due.Run FetchPlus) = OfA ∷ []
@@ -208,159 +208,159 @@ deciding_parts (due.Run Store) = OfA ∷ []
 deciding_parts (due.Run _) = []
 
 -- what the address of a choice names, and whether its test held
-abbrev pub choice_target : ActionChoice → AddressTarget
-choice_target (At target) = target
-choice_target _ = Bad
+abbrev pub deciding_target : DecidingTestOrTarget → AddressTarget
+deciding_target (TargetChoice target) = target
+deciding_target _ = Bad
 
-abbrev pub choice_test_holds : ActionChoice → Bool
-choice_test_holds (Test held) = held
-choice_test_holds _ = false
+abbrev pub deciding_test_holds : DecidingTestOrTarget → Bool
+deciding_test_holds (TestResult held) = held
+deciding_test_holds _ = false
 
 -- ---- the table
 
 -- what a read gives, and what comes after it
-abbrev pub read_moves : AddressTarget → (Flow → List FlowMove) → List FlowMove
-read_moves (Ram k) more = more (Same (OfRam k))
-read_moves (Rom k) more = more (Same (OfRom k))
-read_moves Io more = more (Same Outside)
-read_moves (Ports sides) more = SetWait ∷ []
-read_moves Bad more = SetStop ∷ []
+abbrev pub read_flow_changes : AddressTarget → (ValueFlow → List FlowChange) → List FlowChange
+read_flow_changes (Ram k) more = more (CopiedFromPart (OfRam k))
+read_flow_changes (Rom k) more = more (CopiedFromPart (OfRom k))
+read_flow_changes Io more = more (CopiedFromPart OutsideWord)
+read_flow_changes (Ports sides) more = SetWait ∷ []
+read_flow_changes Bad more = SetStop ∷ []
 
 -- what a write of T changes, and what comes after it
-abbrev pub write_moves : AddressTarget → List FlowMove → List FlowMove
-write_moves (Ram k) more = SetRam k (Same top) ∷ more
-write_moves (Rom k) more = more
-write_moves Io more = SetIo (Same top) ∷ more
-write_moves (Ports sides) more = if is_single_side sides then SetWait ∷ [] else SetStop ∷ []
-write_moves Bad more = SetStop ∷ []
+abbrev pub write_flow_changes : AddressTarget → List FlowChange → List FlowChange
+write_flow_changes (Ram k) more = SetRam k (CopiedFromPart top_data_part) ∷ more
+write_flow_changes (Rom k) more = more
+write_flow_changes Io more = SetIo (CopiedFromPart top_data_part) ∷ more
+write_flow_changes (Ports sides) more = if is_single_side_set sides then SetWait ∷ [] else SetStop ∷ []
+write_flow_changes Bad more = SetStop ∷ []
 
-abbrev pub from : NodePart → Flow
-from part = From (part ∷ [])
+abbrev pub flow_from_part : NodePart → ValueFlow
+flow_from_part part = From (part ∷ [])
 
-abbrev pub from_t_and_s : Flow
-from_t_and_s = From (top ∷ second ∷ [])
+abbrev pub flow_from_operands : ValueFlow
+flow_from_operands = From (top_data_part ∷ second_data_part ∷ [])
 
-abbrev pub execute_moves : List FlowMove
-execute_moves = SetP (from top_return) ∷ SetTopReturn (Same OfP) ∷ Skip ∷ []
+abbrev pub execute_flow_changes : List FlowChange
+execute_flow_changes = SetP (flow_from_part top_return_part) ∷ SetTopReturn (CopiedFromPart OfP) ∷ SkipRestOfWord ∷ []
 
-abbrev pub jump_moves : List FlowMove
-jump_moves = SetP (From (OfP ∷ OfI ∷ OfSlot ∷ [])) ∷ Skip ∷ []
+abbrev pub jump_flow_changes : List FlowChange
+jump_flow_changes = SetP (From (OfP ∷ OfI ∷ OfSlot ∷ [])) ∷ SkipRestOfWord ∷ []
 
-abbrev pub add_moves : Bool → List FlowMove
-add_moves extended =
-    let sum = From (top ∷ second ∷ OfCarry ∷ []) in
-    if extended then SetCarry sum ∷ PopTo sum ∷ GoOn ∷ [] else PopTo from_t_and_s ∷ GoOn ∷ []
+abbrev pub plus_flow_changes : Bool → List FlowChange
+plus_flow_changes extended =
+    let sum = From (top_data_part ∷ second_data_part ∷ OfCarry ∷ []) in
+    if extended then SetCarry sum ∷ PopThenSetTop sum ∷ AdvanceSlot ∷ [] else PopThenSetTop flow_from_operands ∷ AdvanceSlot ∷ []
 
-abbrev pub multiply_moves : List FlowMove
-multiply_moves = let sum = From (top ∷ second ∷ OfA ∷ []) in SetA sum ∷ SetTop sum ∷ GoOn ∷ []
+abbrev pub multiply_flow_changes : List FlowChange
+multiply_flow_changes = let sum = From (top_data_part ∷ second_data_part ∷ OfA ∷ []) in SetA sum ∷ SetTop sum ∷ AdvanceSlot ∷ []
 
 -- the moves of a fetch, by what P names
-abbrev pub fetch_moves : AddressTarget → List FlowMove
-fetch_moves target = read_moves target (λ word. SetI word ∷ SetP (from OfP) ∷ StartAgain ∷ [])
+abbrev pub fetch_flow_changes : AddressTarget → List FlowChange
+fetch_flow_changes target = read_flow_changes target (λ word. SetI word ∷ SetP (flow_from_part OfP) ∷ ReturnToFirstSlot ∷ [])
 
 -- the moves of what comes next in their order, by the opcode and what else decides the event
-abbrev pub moves_by_choice : NextAction → ActionChoice → List FlowMove
-moves_by_choice due.Fetch c = fetch_moves (choice_target c)
-moves_by_choice (due.Run Return) c = SetP (from top_return) ∷ PopReturn ∷ Skip ∷ []
-moves_by_choice (due.Run Execute) c = execute_moves
-moves_by_choice (due.Run Jump) c = jump_moves
-moves_by_choice (due.Run Call) c = PushReturn (Same OfP) ∷ jump_moves
-moves_by_choice (due.Run Unext) c = if choice_test_holds c then PopReturn ∷ GoOn ∷ [] else SetTopReturn (from top_return) ∷ StartAgain ∷ []
-moves_by_choice (due.Run Next) c = if choice_test_holds c then PopReturn ∷ Skip ∷ [] else SetTopReturn (from top_return) ∷ jump_moves
-moves_by_choice (due.Run If) c = if choice_test_holds c then jump_moves else Skip ∷ []
-moves_by_choice (due.Run MinusIf) c = if choice_test_holds c then jump_moves else Skip ∷ []
-moves_by_choice (due.Run FetchP) c = read_moves (choice_target c) (λ word. PushData word ∷ SetP (from OfP) ∷ GoOn ∷ [])
-moves_by_choice (due.Run FetchPlus) c = read_moves (choice_target c) (λ word. PushData word ∷ SetA (from OfA) ∷ GoOn ∷ [])
-moves_by_choice (due.Run FetchB) c = read_moves (choice_target c) (λ word. PushData word ∷ GoOn ∷ [])
-moves_by_choice (due.Run Fetch) c = read_moves (choice_target c) (λ word. PushData word ∷ GoOn ∷ [])
-moves_by_choice (due.Run StoreP) c = write_moves (choice_target c) (PopData ∷ SetP (from OfP) ∷ GoOn ∷ [])
-moves_by_choice (due.Run StorePlus) c = write_moves (choice_target c) (PopData ∷ SetA (from OfA) ∷ GoOn ∷ [])
-moves_by_choice (due.Run StoreB) c = write_moves (choice_target c) (PopData ∷ GoOn ∷ [])
-moves_by_choice (due.Run Store) c = write_moves (choice_target c) (PopData ∷ GoOn ∷ [])
-moves_by_choice (due.Run MultiplyStep) c = multiply_moves
-moves_by_choice (due.Run TwoStar) c = SetTop (from top) ∷ GoOn ∷ []
-moves_by_choice (due.Run TwoSlash) c = SetTop (from top) ∷ GoOn ∷ []
-moves_by_choice (due.Run Invert) c = SetTop (from top) ∷ GoOn ∷ []
-moves_by_choice (due.Run Plus) c = add_moves (choice_test_holds c)
-moves_by_choice (due.Run And) c = PopTo from_t_and_s ∷ GoOn ∷ []
-moves_by_choice (due.Run Or) c = PopTo from_t_and_s ∷ GoOn ∷ []
-moves_by_choice (due.Run Drop) c = PopData ∷ GoOn ∷ []
-moves_by_choice (due.Run Dup) c = PushData (Same top) ∷ GoOn ∷ []
-moves_by_choice (due.Run Pop) c = PushData (Same top_return) ∷ PopReturn ∷ GoOn ∷ []
-moves_by_choice (due.Run Over) c = PushData (Same second) ∷ GoOn ∷ []
-moves_by_choice (due.Run A) c = PushData (Same OfA) ∷ GoOn ∷ []
-moves_by_choice (due.Run Nop) c = GoOn ∷ []
-moves_by_choice (due.Run Push) c = PushReturn (Same top) ∷ PopData ∷ GoOn ∷ []
-moves_by_choice (due.Run BStore) c = SetB (from top) ∷ PopData ∷ GoOn ∷ []
-moves_by_choice (due.Run AStore) c = SetA (Same top) ∷ PopData ∷ GoOn ∷ []
+abbrev pub flow_changes_by_test_or_target : NextAction → DecidingTestOrTarget → List FlowChange
+flow_changes_by_test_or_target due.Fetch c = fetch_flow_changes (deciding_target c)
+flow_changes_by_test_or_target (due.Run Return) c = SetP (flow_from_part top_return_part) ∷ PopReturn ∷ SkipRestOfWord ∷ []
+flow_changes_by_test_or_target (due.Run Execute) c = execute_flow_changes
+flow_changes_by_test_or_target (due.Run Jump) c = jump_flow_changes
+flow_changes_by_test_or_target (due.Run Call) c = PushReturn (CopiedFromPart OfP) ∷ jump_flow_changes
+flow_changes_by_test_or_target (due.Run Unext) c = if deciding_test_holds c then PopReturn ∷ AdvanceSlot ∷ [] else SetTopReturn (flow_from_part top_return_part) ∷ ReturnToFirstSlot ∷ []
+flow_changes_by_test_or_target (due.Run Next) c = if deciding_test_holds c then PopReturn ∷ SkipRestOfWord ∷ [] else SetTopReturn (flow_from_part top_return_part) ∷ jump_flow_changes
+flow_changes_by_test_or_target (due.Run If) c = if deciding_test_holds c then jump_flow_changes else SkipRestOfWord ∷ []
+flow_changes_by_test_or_target (due.Run MinusIf) c = if deciding_test_holds c then jump_flow_changes else SkipRestOfWord ∷ []
+flow_changes_by_test_or_target (due.Run FetchP) c = read_flow_changes (deciding_target c) (λ word. PushData word ∷ SetP (flow_from_part OfP) ∷ AdvanceSlot ∷ [])
+flow_changes_by_test_or_target (due.Run FetchPlus) c = read_flow_changes (deciding_target c) (λ word. PushData word ∷ SetA (flow_from_part OfA) ∷ AdvanceSlot ∷ [])
+flow_changes_by_test_or_target (due.Run FetchB) c = read_flow_changes (deciding_target c) (λ word. PushData word ∷ AdvanceSlot ∷ [])
+flow_changes_by_test_or_target (due.Run Fetch) c = read_flow_changes (deciding_target c) (λ word. PushData word ∷ AdvanceSlot ∷ [])
+flow_changes_by_test_or_target (due.Run StoreP) c = write_flow_changes (deciding_target c) (PopData ∷ SetP (flow_from_part OfP) ∷ AdvanceSlot ∷ [])
+flow_changes_by_test_or_target (due.Run StorePlus) c = write_flow_changes (deciding_target c) (PopData ∷ SetA (flow_from_part OfA) ∷ AdvanceSlot ∷ [])
+flow_changes_by_test_or_target (due.Run StoreB) c = write_flow_changes (deciding_target c) (PopData ∷ AdvanceSlot ∷ [])
+flow_changes_by_test_or_target (due.Run Store) c = write_flow_changes (deciding_target c) (PopData ∷ AdvanceSlot ∷ [])
+flow_changes_by_test_or_target (due.Run MultiplyStep) c = multiply_flow_changes
+flow_changes_by_test_or_target (due.Run TwoStar) c = SetTop (flow_from_part top_data_part) ∷ AdvanceSlot ∷ []
+flow_changes_by_test_or_target (due.Run TwoSlash) c = SetTop (flow_from_part top_data_part) ∷ AdvanceSlot ∷ []
+flow_changes_by_test_or_target (due.Run Invert) c = SetTop (flow_from_part top_data_part) ∷ AdvanceSlot ∷ []
+flow_changes_by_test_or_target (due.Run Plus) c = plus_flow_changes (deciding_test_holds c)
+flow_changes_by_test_or_target (due.Run And) c = PopThenSetTop flow_from_operands ∷ AdvanceSlot ∷ []
+flow_changes_by_test_or_target (due.Run Or) c = PopThenSetTop flow_from_operands ∷ AdvanceSlot ∷ []
+flow_changes_by_test_or_target (due.Run Drop) c = PopData ∷ AdvanceSlot ∷ []
+flow_changes_by_test_or_target (due.Run Dup) c = PushData (CopiedFromPart top_data_part) ∷ AdvanceSlot ∷ []
+flow_changes_by_test_or_target (due.Run Pop) c = PushData (CopiedFromPart top_return_part) ∷ PopReturn ∷ AdvanceSlot ∷ []
+flow_changes_by_test_or_target (due.Run Over) c = PushData (CopiedFromPart second_data_part) ∷ AdvanceSlot ∷ []
+flow_changes_by_test_or_target (due.Run A) c = PushData (CopiedFromPart OfA) ∷ AdvanceSlot ∷ []
+flow_changes_by_test_or_target (due.Run Nop) c = AdvanceSlot ∷ []
+flow_changes_by_test_or_target (due.Run Push) c = PushReturn (CopiedFromPart top_data_part) ∷ PopData ∷ AdvanceSlot ∷ []
+flow_changes_by_test_or_target (due.Run BStore) c = SetB (flow_from_part top_data_part) ∷ PopData ∷ AdvanceSlot ∷ []
+flow_changes_by_test_or_target (due.Run AStore) c = SetA (CopiedFromPart top_data_part) ∷ PopData ∷ AdvanceSlot ∷ []
 
 -- the moves of an opcode in a node, and those of what comes next in a node
-abbrev pub opcode_moves : Op → NodeRecord → List FlowMove
-opcode_moves op n = moves_by_choice (due.Run op) (choice (due.Run op) n)
+abbrev pub opcode_flow_changes : Op → NodeRecord → List FlowChange
+opcode_flow_changes op n = flow_changes_by_test_or_target (due.Run op) (deciding_test_or_target (due.Run op) n)
 
-abbrev pub action_moves : NextAction → NodeRecord → List FlowMove
-action_moves due.Fetch n = fetch_moves (address_target n.p)
-action_moves (due.Run op) n = opcode_moves op n
+abbrev pub action_flow_changes : NextAction → NodeRecord → List FlowChange
+action_flow_changes due.Fetch n = fetch_flow_changes (address_target n.p)
+action_flow_changes (due.Run op) n = opcode_flow_changes op n
 
 -- the moves of the two halves of a transfer
-abbrev pub send_moves : List FlowMove
-send_moves = SetWait ∷ PopData ∷ GoOn ∷ []
+abbrev pub send_flow_changes : List FlowChange
+send_flow_changes = SetWait ∷ PopData ∷ AdvanceSlot ∷ []
 
-abbrev pub take_moves : Wait → List FlowMove
-take_moves (wait.Fetch sides) = SetWait ∷ SetI (Same Outside) ∷ StartAgain ∷ []
-take_moves (wait.Read sides) = SetWait ∷ PushData (Same Outside) ∷ GoOn ∷ []
-take_moves wait.Nothing = []
-take_moves (wait.Write side) = []
+abbrev pub take_flow_changes : Wait → List FlowChange
+take_flow_changes (wait.Fetch sides) = SetWait ∷ SetI (CopiedFromPart OutsideWord) ∷ ReturnToFirstSlot ∷ []
+take_flow_changes (wait.Read sides) = SetWait ∷ PushData (CopiedFromPart OutsideWord) ∷ AdvanceSlot ∷ []
+take_flow_changes wait.Nothing = []
+take_flow_changes (wait.Write side) = []
 
 -- where the value of a part comes from after what comes next, where this decides it
-unfoldable pub flow_by_choice : NextAction → ActionChoice → NodePart → Flow
-flow_by_choice due choice = flows_after_moves (moves_by_choice due choice) Same
+unfoldable pub flow_by_test_or_target : NextAction → DecidingTestOrTarget → NodePart → ValueFlow
+flow_by_test_or_target due deciding_test_or_target = flows_after_changes (flow_changes_by_test_or_target due deciding_test_or_target) CopiedFromPart
 
 -- where the value of a part comes from after a node's own event, after it sent a word, and after it took one
-unfoldable pub flow_of_own_event : NodeRecord → NodePart → Flow
-flow_of_own_event n = flows_after_moves (action_moves (next_action_of n) n) Same
+unfoldable pub flow_of_own_event : NodeRecord → NodePart → ValueFlow
+flow_of_own_event n = flows_after_changes (action_flow_changes (next_action_of_node n) n) CopiedFromPart
 
-unfoldable pub send_flow : NodePart → Flow
-send_flow = flows_after_moves send_moves Same
+unfoldable pub flow_after_send : NodePart → ValueFlow
+flow_after_send = flows_after_changes send_flow_changes CopiedFromPart
 
-unfoldable pub take_flow : Wait → NodePart → Flow
-take_flow wait = flows_after_moves (take_moves wait) Same
+unfoldable pub flow_after_take : Wait → NodePart → ValueFlow
+flow_after_take wait = flows_after_changes (take_flow_changes wait) CopiedFromPart
 
 -- ---- two runs
 
 -- whether what comes next is the same in two nodes, and so is what decides it besides the opcode
 pub record HaveSameNextAction (n m : NodeRecord) : Type 0 where
-  pub due : next_action_of n ≡ next_action_of m
-  pub choice : choice (next_action_of n) n ≡ choice (next_action_of m) m
+  pub due : next_action_of_node n ≡ next_action_of_node m
+  pub choice : deciding_test_or_target (next_action_of_node n) n ≡ deciding_test_or_target (next_action_of_node m) m
 
 -- two nodes hold the same in these parts, where these words come from outside
-abbrev pub AgreeAtParts : ℕ → NodeRecord → ℕ → NodeRecord → List NodePart → Type 0
-AgreeAtParts word n other m [] = Unit {0}
-AgreeAtParts word n other m (part ∷ rest) = (part_value word n part ≡ part_value other m part) × AgreeAtParts word n other m rest
+abbrev pub AreNodesAlikeAtParts : ℕ → NodeRecord → ℕ → NodeRecord → List NodePart → Type 0
+AreNodesAlikeAtParts word n other m [] = Unit {0}
+AreNodesAlikeAtParts word n other m (part ∷ rest) = (node_part_value word n part ≡ node_part_value other m part) × AreNodesAlikeAtParts word n other m rest
 
 -- Two values come from a flow, in two nodes before an event: each is that of a part, or they are the same where the nodes agree.
-abbrev pub AreFlowValues : ℕ → NodeRecord → ℕ → NodeRecord → Flow → ℕ → ℕ → Type 0
-AreFlowValues word n other m (Same part) x y = (x ≡ part_value word n part) × (y ≡ part_value other m part)
-AreFlowValues word n other m (From parts) x y = AgreeAtParts word n other m parts → x ≡ y
+abbrev pub AreBothValuesFromFlow : ℕ → NodeRecord → ℕ → NodeRecord → ValueFlow → ℕ → ℕ → Type 0
+AreBothValuesFromFlow word n other m (CopiedFromPart part) x y = (x ≡ node_part_value word n part) × (y ≡ node_part_value other m part)
+AreBothValuesFromFlow word n other m (From parts) x y = AreNodesAlikeAtParts word n other m parts → x ≡ y
 
 -- ---- the flows of the code
 
 -- the flow that a stored flow represents
-abbrev pub flow_of : KeptFlow → Flow
-flow_of (flow.Same part) = Same part
-flow_of (flow.From parts) = From parts.items
+abbrev pub flow_of_stored_flow : KeptFlow → ValueFlow
+flow_of_stored_flow (flow.CopiedFromPart part) = CopiedFromPart part
+flow_of_stored_flow (flow.ComputedFromParts parts) = From parts.items
 
 -- a part that each node has, or the word from outside
-abbrev pub IsFlowSource : NodePart → Type 0
-IsFlowSource Outside = Unit {0}
-IsFlowSource part = IsNodePart part
+abbrev pub IsPartInRangeOrOutsideWord : NodePart → Type 0
+IsPartInRangeOrOutsideWord OutsideWord = Unit {0}
+IsPartInRangeOrOutsideWord part = IsNodePartInRange part
 
-abbrev pub AreNodeParts : List NodePart → Type 0
-AreNodeParts [] = Unit {0}
-AreNodeParts (part ∷ rest) = IsNodePart part × AreNodeParts rest
+abbrev pub AreNodePartsInRange : List NodePart → Type 0
+AreNodePartsInRange [] = Unit {0}
+AreNodePartsInRange (part ∷ rest) = IsNodePartInRange part × AreNodePartsInRange rest
 
 -- Whether the word from outside occurs in a flow only as the new value of a part: nothing is computed from it in the event that
 -- brings it.
-abbrev pub HasValidSources : Flow → Type 0
-HasValidSources (Same part) = IsFlowSource part
-HasValidSources (From parts) = AreNodeParts parts
+abbrev pub ComputesNothingFromOutsideWord : ValueFlow → Type 0
+ComputesNothingFromOutsideWord (CopiedFromPart part) = IsPartInRangeOrOutsideWord part
+ComputesNothingFromOutsideWord (From parts) = AreNodePartsInRange parts

@@ -3,104 +3,104 @@ use Rattle.ga_event.specs.declared.flow.sought.TracedPart.TheVariants as sought
 use Rattle.ga_ports.specs.declared.address.AddressTarget.TheVariants as target
 use Rattle.std.specs.Prelude.{◌≡◌, ◌+◌, ◌-◌, ◌==◌, Bool, None, if◌then◌else◌, List, [], ◌∷◌}
 use Rattle.ga_event.specs.declared.flow.part.NodePart.{NodePart}
-use Rattle.ga_event.specs.declared.flow.part.NodePart.TheVariants.{Data, Return, Ram, Rom, A, B, P, I, Io, Carry, Slot, Wait, Stop, Outside}
+use Rattle.ga_event.specs.declared.flow.part.NodePart.TheVariants.{Data, Return, Ram, Rom, A, B, P, I, Io, Carry, Slot, Wait, Stop, OutsideWord}
 use Rattle.ga_event.specs.declared.flow.sought.TracedPart.{TracedPart}
-use Rattle.ga_ports.specs.Address.{is_single_side}
+use Rattle.ga_ports.specs.Address.{is_single_side_set}
 use Rattle.ga_node.specs.Record.{NodeRecord}
-use Rattle.ga_node.specs.Table.{refusal, next_action_of, is_look_action}
-use Rattle.ga_node.specs.Ready.{CanExecute}
+use Rattle.ga_node.specs.Table.{refusal_of_own_event, next_action_of_node, is_look_action}
+use Rattle.ga_node.specs.Ready.{CanExecuteAction}
 use Rattle.ga_node.specs.declared.due.NextAction.{NextAction}
 use Rattle.ga_ports.specs.declared.address.AddressTarget.{AddressTarget}
-use Rattle.ga_event.specs.Flow.{Flow, Same, From, FlowMove, PushData, PopData, SetTop, PopTo, PushReturn, PopReturn, SetTopReturn, SetP, SetA, SetB, SetI, SetIo, SetCarry, SetRam, GoOn, Skip, StartAgain, SetWait, SetStop, top, top_return, is_equal_to, IsNodePart, flow_of, HasValidSources}
+use Rattle.ga_event.specs.Flow.{ValueFlow, CopiedFromPart, From, FlowChange, PushData, PopData, SetTop, PopThenSetTop, PushReturn, PopReturn, SetTopReturn, SetP, SetA, SetB, SetI, SetIo, SetCarry, SetRam, AdvanceSlot, SkipRestOfWord, ReturnToFirstSlot, SetWait, SetStop, top_data_part, top_return_part, is_same_node_part, IsNodePartInRange, flow_of_stored_flow, ComputesNothingFromOutsideWord}
 
 -- the node makes this next, looking at its neighbours or not
-pub record IsNextOwn (due : NextAction) (looks : Bool) (n : NodeRecord) : Type 0 where
-  pub ready : refusal n ≡ None
-  pub due_is : due ≡ next_action_of n
-  pub can : CanExecute due n
+pub record IsNextOwnEvent (due : NextAction) (looks : Bool) (n : NodeRecord) : Type 0 where
+  pub ready : refusal_of_own_event n ≡ None
+  pub due_is : due ≡ next_action_of_node n
+  pub can : CanExecuteAction due n
   pub looks_is : is_look_action due n ≡ looks
 
 -- a part before some changes, or where the value was found to come from
-pub data Trace : Type 0 where
-  At : NodePart → Trace
-  Found : Flow → Trace
+pub data ValueOriginTrace : Type 0 where
+  At : NodePart → ValueOriginTrace
+  Found : ValueFlow → ValueOriginTrace
 
-abbrev pub sought_of : TracedPart → Trace
-sought_of (sought.At part) = At part
-sought_of (sought.Found flow) = Found (flow_of flow)
+abbrev pub trace_of_traced_part : TracedPart → ValueOriginTrace
+trace_of_traced_part (sought.At part) = At part
+trace_of_traced_part (sought.Found flow) = Found (flow_of_stored_flow flow)
 
-abbrev pub IsSought : Trace → Type 0
-IsSought (At part) = IsNodePart part
-IsSought (Found flow) = HasValidSources flow
+abbrev pub IsValidOriginTrace : ValueOriginTrace → Type 0
+IsValidOriginTrace (At part) = IsNodePartInRange part
+IsValidOriginTrace (Found flow) = ComputesNothingFromOutsideWord flow
 
 -- a part followed back over another word in a part, and over a push and a pop of either stack
-abbrev pub set_at : NodePart → Flow → Trace → Trace
-set_at at flow (At part) = if is_equal_to part at then Found flow else At part
-set_at at flow (Found found) = Found found
+abbrev pub trace_before_set : NodePart → ValueFlow → ValueOriginTrace → ValueOriginTrace
+trace_before_set at flow (At part) = if is_same_node_part part at then Found flow else At part
+trace_before_set at flow (Found found) = Found found
 
-abbrev pub push_data : Flow → Trace → Trace
+abbrev pub push_data : ValueFlow → ValueOriginTrace → ValueOriginTrace
 push_data flow (At (Data k)) = if k == 0 then Found flow else At (Data (k - 1))
 push_data flow trace = trace
 
-abbrev pub pop_data : Trace → Trace
+abbrev pub pop_data : ValueOriginTrace → ValueOriginTrace
 pop_data (At (Data k)) = if k == 9 then At (Data 2) else At (Data (k + 1))
 pop_data trace = trace
 
-abbrev pub push_return : Flow → Trace → Trace
+abbrev pub push_return : ValueFlow → ValueOriginTrace → ValueOriginTrace
 push_return flow (At (Return k)) = if k == 0 then Found flow else At (Return (k - 1))
 push_return flow trace = trace
 
-abbrev pub pop_return : Trace → Trace
+abbrev pub pop_return : ValueOriginTrace → ValueOriginTrace
 pop_return (At (Return k)) = if k == 8 then At (Return 1) else At (Return (k + 1))
 pop_return trace = trace
 
 -- a part followed back over a move
-abbrev pub before : FlowMove → Trace → Trace
+abbrev pub before : FlowChange → ValueOriginTrace → ValueOriginTrace
 before (PushData flow) trace = push_data flow trace
 before PopData trace = pop_data trace
-before (SetTop flow) trace = set_at top flow trace
-before (PopTo flow) trace = pop_data (set_at top flow trace)
+before (SetTop flow) trace = trace_before_set top_data_part flow trace
+before (PopThenSetTop flow) trace = pop_data (trace_before_set top_data_part flow trace)
 before (PushReturn flow) trace = push_return flow trace
 before PopReturn trace = pop_return trace
-before (SetTopReturn flow) trace = set_at top_return flow trace
-before (SetP flow) trace = set_at P flow trace
-before (SetA flow) trace = set_at A flow trace
-before (SetB flow) trace = set_at B flow trace
-before (SetI flow) trace = set_at I flow trace
-before (SetIo flow) trace = set_at Io flow trace
-before (SetCarry flow) trace = set_at Carry flow trace
-before (SetRam cell flow) trace = set_at (Ram cell) flow trace
-before GoOn trace = set_at Slot (From (Slot ∷ [])) trace
-before Skip trace = set_at Slot (From []) trace
-before StartAgain trace = set_at Slot (From []) trace
-before SetWait trace = set_at Wait (From []) trace
-before SetStop trace = set_at Stop (From []) trace
+before (SetTopReturn flow) trace = trace_before_set top_return_part flow trace
+before (SetP flow) trace = trace_before_set P flow trace
+before (SetA flow) trace = trace_before_set A flow trace
+before (SetB flow) trace = trace_before_set B flow trace
+before (SetI flow) trace = trace_before_set I flow trace
+before (SetIo flow) trace = trace_before_set Io flow trace
+before (SetCarry flow) trace = trace_before_set Carry flow trace
+before (SetRam cell flow) trace = trace_before_set (Ram cell) flow trace
+before AdvanceSlot trace = trace_before_set Slot (From (Slot ∷ [])) trace
+before SkipRestOfWord trace = trace_before_set Slot (From []) trace
+before ReturnToFirstSlot trace = trace_before_set Slot (From []) trace
+before SetWait trace = trace_before_set Wait (From []) trace
+before SetStop trace = trace_before_set Stop (From []) trace
 
 -- a part followed back over some moves, the last of them first
-abbrev pub before_all : List FlowMove → Trace → Trace
-before_all [] trace = trace
-before_all (move ∷ rest) trace = before move (before_all rest trace)
+abbrev pub trace_before_changes : List FlowChange → ValueOriginTrace → ValueOriginTrace
+trace_before_changes [] trace = trace
+trace_before_changes (move ∷ rest) trace = before move (trace_before_changes rest trace)
 
 -- a part followed back over a read whose word is pushed, and over a write; what came after is followed back already
-abbrev pub read_before : AddressTarget → NodePart → Trace → Trace
-read_before (target.Ram k) part later = push_data (Same (Ram k)) later
-read_before (target.Rom k) part later = push_data (Same (Rom k)) later
-read_before target.Io part later = push_data (Same Outside) later
-read_before (target.Ports sides) part later = before SetWait (At part)
-read_before target.Bad part later = before SetStop (At part)
+abbrev pub trace_before_read : AddressTarget → NodePart → ValueOriginTrace → ValueOriginTrace
+trace_before_read (target.Ram k) part later = push_data (CopiedFromPart (Ram k)) later
+trace_before_read (target.Rom k) part later = push_data (CopiedFromPart (Rom k)) later
+trace_before_read target.Io part later = push_data (CopiedFromPart OutsideWord) later
+trace_before_read (target.Ports sides) part later = before SetWait (At part)
+trace_before_read target.Bad part later = before SetStop (At part)
 
-abbrev pub write_before : AddressTarget → NodePart → Trace → Trace
-write_before (target.Ram k) part later = set_at (Ram k) (Same top) later
-write_before (target.Rom k) part later = later
-write_before target.Io part later = set_at Io (Same top) later
-write_before (target.Ports sides) part later = if is_single_side sides then before SetWait (At part) else before SetStop (At part)
-write_before target.Bad part later = before SetStop (At part)
+abbrev pub trace_before_write : AddressTarget → NodePart → ValueOriginTrace → ValueOriginTrace
+trace_before_write (target.Ram k) part later = trace_before_set (Ram k) (CopiedFromPart top_data_part) later
+trace_before_write (target.Rom k) part later = later
+trace_before_write target.Io part later = trace_before_set Io (CopiedFromPart top_data_part) later
+trace_before_write (target.Ports sides) part later = if is_single_side_set sides then before SetWait (At part) else before SetStop (At part)
+trace_before_write target.Bad part later = before SetStop (At part)
 
 -- a part followed back over R popped or counted down; what came after each is followed back already
-abbrev pub count_before : Bool → Trace → Trace → Trace
-count_before ends last again = if ends then pop_return last else set_at top_return (From (top_return ∷ [])) again
+abbrev pub trace_before_count_down : Bool → ValueOriginTrace → ValueOriginTrace → ValueOriginTrace
+trace_before_count_down ends last again = if ends then pop_return last else trace_before_set top_return_part (From (top_return_part ∷ [])) again
 
 -- where the value of a part comes from that was followed back over an event
-abbrev pub settled : Trace → Flow
-settled (At part) = Same part
-settled (Found flow) = flow
+abbrev pub flow_of_trace : ValueOriginTrace → ValueFlow
+flow_of_trace (At part) = CopiedFromPart part
+flow_of_trace (Found flow) = flow

@@ -2,7 +2,7 @@
 
 ghost use Rattle.std.specs.Prelude.{◌≡◌};
 ghost use Rattle.ga_event.specs.Touches.{touches};
-ghost use Rattle.ga_event.specs.Undo.{cause_from_effect};
+ghost use Rattle.ga_event.specs.Undo.{event_with_look_from_effect};
 
 use ga_grid::NodeId;
 use ga_node::{OwnEventKind, Saved};
@@ -28,7 +28,7 @@ pub enum Event {
 /// An event, with whether it is a look: an own event that reads `io` or fetches from it, and so depends on what the
 /// neighbours of its node wait for. It touches none of them. No pass is a look.
 #[derive(Clone, Copy, PartialEq, Eq, Debug)]
-pub struct Cause {
+pub struct EventWithLook {
     /// The event.
     pub event: Event,
     /// Whether it is a look.
@@ -37,7 +37,7 @@ pub struct Cause {
 
 /// What a node's own event was, and whether it looked at the neighbours: an [`Effect`] without the old values.
 #[derive(Clone, Copy, PartialEq, Eq, Debug)]
-pub struct OwnOutcome {
+pub struct OwnEventKindWithLook {
     /// What the event was.
     pub kind: OwnEventKind,
     /// Whether it looked.
@@ -64,15 +64,15 @@ pub enum Effect {
 
 /// An event with this effect, with whether it looked.
 #[inline]
-pub fn cause_from_effect(event: Event, effect: &Effect) -> Cause
-    ensures { result ≡ cause_from_effect event effect.now }
+pub fn event_with_look_from_effect(event: Event, effect: &Effect) -> EventWithLook
+    ensures { result ≡ event_with_look_from_effect event effect.now }
 {
     let look = match effect {
         Effect::Own(..) => false,
         Effect::Look(..) => true,
         Effect::Pass { .. } => false,
     };
-    Cause { event, look }
+    EventWithLook { event, look }
 }
 
 /// Whether the event touches the node.

@@ -10,15 +10,17 @@ pub mod laws;
 mod made;
 mod next;
 
-pub use back::{undo_node, undo_on_chip};
-pub use event::{Cause, Effect, Event, OwnOutcome, cause_from_effect, touches};
+pub use back::{restore_node_values, undo_event_on_chip};
+pub use event::{
+    Effect, Event, EventWithLook, OwnEventKindWithLook, event_with_look_from_effect, touches,
+};
 pub use flow::{
-    ActionChoice, Flow, NodePart, flow_by_choice, flow_of_own_event, next_action_in, send_flow,
-    take_flow,
+    DecidingTestOrTarget, NodePart, ValueFlow, flow_after_send, flow_after_take,
+    flow_by_test_or_target, flow_of_own_event, next_action_of_running_node,
 };
 pub use forward::{
-    apply, apply_own, apply_pass, cause_of, is_waiting_to_read, is_waiting_to_write,
-    neighbour_states,
+    apply, apply_own_event, apply_pass, event_with_look_on_chip, is_waiting_to_read,
+    is_waiting_to_write, neighbour_states,
 };
-pub use made::Made;
-pub use next::{next_event, runs};
+pub use made::MadeEvent;
+pub use next::{is_node_running, next_event};

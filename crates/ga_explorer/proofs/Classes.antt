@@ -4,27 +4,27 @@ use Rattle.std.specs.Cmp.Lexicographic.{pointwise}
 use Rattle.std.specs.Option.{option_and_then}
 use Rattle.std.proofs.Common.{◌≡◌, ◌≢◌, ℕ, Bool, true, false, List, Option, Some, None, refl, sym, ◌∙◌, ap, subst, inl, inr, rules}
 use Rattle.std.proofs.lemmas.Slice.Eq.{bytes_eq-Decides}
-use Rattle.ga_lab.specs.Machine.{State}
+use Rattle.ga_lab.specs.Machine.{MachineState}
 use Rattle.ga_text.specs.Parsing.{split_at_space, parse_node, parse_number}
 use Rattle.ga_debug_info.specs.declared.notes.DebugInfo.{DebugInfo}
 use Rattle.ga_scheduler.specs.declared.schedule.Schedule.{Schedule}
-use Rattle.ga_scheduler.specs.Schedules.{round_robin, greedy, random}
-use Rattle.ga_conditions.specs.Conditions.{no_conditions, parsed_run_conditions, parsed_until}
+use Rattle.ga_scheduler.specs.Schedules.{round_robin_schedule, greedy_schedule, random_schedule}
+use Rattle.ga_conditions.specs.Conditions.{never_holding_conditions, parsed_run_conditions, parsed_until_conditions}
 use Rattle.ga_display.specs.declared.wording.RefusalWording.{RefusalWording}
 use Rattle.ga_display.specs.declared.wording.RefusalWording.TheVariants.{Advised}
 use Rattle.ga_console.specs.Commands.{SpellsCommand}
 use Rattle.ga_console.specs.Replies.{IsCommandReply, IsAnswerInWording, Reply, reply_in_wording}
 use Rattle.ga_console.specs.Replies.IsAnswerInWording.{long, command, syntax}
-use Rattle.ga_console.specs.declared.command.Command.{Command}
-use Rattle.ga_console.specs.declared.command.Command.TheVariants.{Step, Back, Rewind, Node, Memory, Trace, Why, Count, Dump, Quit}
-use Rattle.ga_explorer.specs.Answers.{AnswersExplorerLine, AnswersOutsideExplorer}
+use Rattle.ga_console.specs.declared.command.DebuggerCommand.{DebuggerCommand}
+use Rattle.ga_console.specs.declared.command.DebuggerCommand.TheVariants.{Step, Back, Rewind, Node, Memory, Trace, Why, Count, Dump, Quit}
+use Rattle.ga_explorer.specs.Answers.{AnswersExplorerLine, AnswersNonExplorerLine}
 use Rattle.ga_explorer.specs.Answers.AnswersExplorerLine.{explored, debugged}
 use Rattle.ga_explorer.specs.Classes.{command_class_of_name, command_class_of_line, class_of_explorer_command, class_of_debugger_command}
-use Rattle.ga_explorer.specs.Commands.{command_of_line, command_of_parts, single_word_command, bare_query, command_with_arguments, query_with_arguments, command_table, AnswersExplorerCommand}
-use Rattle.ga_explorer.specs.Forms.{command_place_from}
+use Rattle.ga_explorer.specs.Commands.{explorer_command_of_line, explorer_command_of_split_line, single_word_command, query_without_arguments, command_with_arguments, query_with_arguments, command_table, AnswersExplorerCommand}
+use Rattle.ga_explorer.specs.Forms.{command_index_from_place}
 use Rattle.ga_explorer.specs.NoCommand.{command_word}
 use Rattle.ga_explorer.specs.Opening.{ExplorerState}
-use Rattle.ga_explorer.specs.Reading.{parse_run_arguments, run_command_of_parts, parse_single_order, parse_named_order, parse_seeded_run, seeded_run_of_parts, parse_run_bounds, run_bounds_of_parts, run_bounds_of_words, max_run_events, parse_back_arguments, back_command_of_words}
+use Rattle.ga_explorer.specs.Reading.{parse_run_arguments, parse_split_run_arguments, parse_single_order, parse_named_order, parse_seeded_run, parse_split_seeded_run, parse_run_bounds, parse_split_run_bounds, run_command_with_bounds, default_max_run_events, parse_back_arguments, parse_back_command_words}
 use Rattle.ga_explorer.specs.declared.commands.ExplorerCommand.{ExplorerCommand}
 use Rattle.ga_explorer.specs.declared.commands.ExplorerCommand.TheVariants.{Run, BackUntil, AnswerQuery}
 use Rattle.ga_explorer.specs.declared.commands.Query.{Query as Question}
@@ -50,12 +50,12 @@ query_if name word found others of later = by_test (pointwise nat_eq name word) 
   by_test true is = any_query name found (ap command_class_of_name (is refl) ∙ of)
   by_test false is = later
 
-bare : (name : List ℕ) → IsQueryRow name (bare_query name)
-unfolding bare_query command_table command_place_from
+bare : (name : List ℕ) → IsQueryRow name (query_without_arguments name)
+unfolding query_without_arguments command_table command_index_from_place
 bare name = search (rules, query_if)
 
 with_arguments : (name text : List ℕ) → IsQueryRow name (query_with_arguments name text)
-unfolding query_with_arguments command_table command_place_from
+unfolding query_with_arguments command_table command_index_from_place
 with_arguments name text = search (rules, query_if)
 
 -- ---- what `run` and `back until` spell changes the machine
@@ -76,51 +76,51 @@ change_if : (b : Bool) (x y : Option ExplorerCommand) → IsChange x → IsChang
 change_if true x y h k = h
 change_if false x y h k = k
 
-run_words : (notes : Option DebugInfo) (schedule : Schedule) (name text : List ℕ) → IsChange (run_bounds_of_words notes schedule name text)
-unfolding run_bounds_of_words
+run_words : (notes : Option DebugInfo) (schedule : Schedule) (name text : List ℕ) → IsChange (run_command_with_bounds notes schedule name text)
+unfolding run_command_with_bounds
 run_words notes schedule name text =
     change_if (pointwise nat_eq name (codes "until")) _ _
-    (change_mapped (parsed_run_conditions notes text) (Run schedule max_run_events) (λ until. refl))
-    (change_then (parse_number name) _ (λ most. change_then (parsed_until notes text) _ (λ until. refl)))
+    (change_mapped (parsed_run_conditions notes text) (Run schedule default_max_run_events) (λ until. refl))
+    (change_then (parse_number name) _ (λ most. change_then (parsed_until_conditions notes text) _ (λ until. refl)))
 
 run_bounds : (notes : Option DebugInfo) (schedule : Schedule) (text : List ℕ) → IsChange (parse_run_bounds notes schedule text)
 run_bounds notes schedule text = by_parts (split_at_space text) where
-  by_parts : (parts : Option (List ℕ × List ℕ)) → IsChange (run_bounds_of_parts notes parts schedule text)
-  by_parts None = change_mapped (parse_number text) (λ most. Run schedule most no_conditions) (λ most. refl)
+  by_parts : (parts : Option (List ℕ × List ℕ)) → IsChange (parse_split_run_bounds notes parts schedule text)
+  by_parts None = change_mapped (parse_number text) (λ most. Run schedule most never_holding_conditions) (λ most. refl)
   by_parts (Some parts) = run_words notes schedule parts.0 parts.1
 
 seeded_run : (notes : Option DebugInfo) (text : List ℕ) → IsChange (parse_seeded_run notes text)
 seeded_run notes text = by_parts (split_at_space text) where
-  by_parts : (parts : Option (List ℕ × List ℕ)) → IsChange (seeded_run_of_parts notes parts text)
-  by_parts None = change_mapped (parse_number text) (λ seed. Run (random seed) max_run_events no_conditions) (λ seed. refl)
-  by_parts (Some parts) = change_then (parse_number parts.0) (λ seed. parse_run_bounds notes (random seed) parts.1) (λ seed. run_bounds notes (random seed) parts.1)
+  by_parts : (parts : Option (List ℕ × List ℕ)) → IsChange (parse_split_seeded_run notes parts text)
+  by_parts None = change_mapped (parse_number text) (λ seed. Run (random_schedule seed) default_max_run_events never_holding_conditions) (λ seed. refl)
+  by_parts (Some parts) = change_then (parse_number parts.0) (λ seed. parse_run_bounds notes (random_schedule seed) parts.1) (λ seed. run_bounds notes (random_schedule seed) parts.1)
 
 single_order : (notes : Option DebugInfo) (text : List ℕ) → IsChange (parse_single_order notes text)
 unfolding parse_single_order
-single_order notes text = change_if (pointwise nat_eq text (codes "greedy")) (Some (Run greedy max_run_events no_conditions)) _ refl (run_bounds notes round_robin text)
+single_order notes text = change_if (pointwise nat_eq text (codes "greedy")) (Some (Run greedy_schedule default_max_run_events never_holding_conditions)) _ refl (run_bounds notes round_robin_schedule text)
 
 named_order : (notes : Option DebugInfo) (name rest text : List ℕ) → IsChange (parse_named_order notes name rest text)
 unfolding parse_named_order
 named_order notes name rest text =
-    change_if (pointwise nat_eq name (codes "greedy")) _ _ (run_bounds notes greedy rest)
-    (change_if (pointwise nat_eq name (codes "random")) _ _ (seeded_run notes rest) (run_bounds notes round_robin text))
+    change_if (pointwise nat_eq name (codes "greedy")) _ _ (run_bounds notes greedy_schedule rest)
+    (change_if (pointwise nat_eq name (codes "random")) _ _ (seeded_run notes rest) (run_bounds notes round_robin_schedule text))
 
 run_arguments : (notes : Option DebugInfo) (text : List ℕ) → IsChange (parse_run_arguments notes text)
 run_arguments notes text = by_parts (split_at_space text) where
-  by_parts : (parts : Option (List ℕ × List ℕ)) → IsChange (run_command_of_parts notes parts text)
+  by_parts : (parts : Option (List ℕ × List ℕ)) → IsChange (parse_split_run_arguments notes parts text)
   by_parts None = single_order notes text
   by_parts (Some parts) = named_order notes parts.0 parts.1 text
 
-back_words : (notes : Option DebugInfo) (name text : List ℕ) → IsChange (back_command_of_words notes name text)
-unfolding back_command_of_words
+back_words : (notes : Option DebugInfo) (name text : List ℕ) → IsChange (parse_back_command_words notes name text)
+unfolding parse_back_command_words
 back_words notes name text =
     change_if (pointwise nat_eq name (codes "until")) _ _
     (change_mapped (parsed_run_conditions notes text) (BackUntil None) (λ until. refl))
-    (change_then (parse_node name) _ (λ node. change_then (parsed_until notes text) _ (λ until. refl)))
+    (change_then (parse_node name) _ (λ node. change_then (parsed_until_conditions notes text) _ (λ until. refl)))
 
 back_arguments : (notes : Option DebugInfo) (text : List ℕ) → IsChange (parse_back_arguments notes text)
 unfolding parse_back_arguments
-back_arguments notes text = change_then (split_at_space text) (λ parts. back_command_of_words notes parts.0 parts.1) (λ parts. back_words notes parts.0 parts.1)
+back_arguments notes text = change_then (split_at_space text) (λ parts. parse_back_command_words notes parts.0 parts.1) (λ parts. back_words notes parts.0 parts.1)
 
 -- ---- commands of exploring
 
@@ -145,27 +145,27 @@ row_if name word found others of change later = by_test (pointwise nat_eq name w
   by_test false is = later
 
 single_row : (name : List ℕ) → IsItsRow name (single_word_command name)
-unfolding single_word_command command_table command_place_from
-single_row name = row_if name (codes "run") (Some (Run round_robin max_run_events no_conditions)) _ refl refl (query_row name (bare_query name) (bare name))
+unfolding single_word_command command_table command_index_from_place
+single_row name = row_if name (codes "run") (Some (Run round_robin_schedule default_max_run_events never_holding_conditions)) _ refl refl (query_row name (query_without_arguments name) (bare name))
 
 arguments_row : (notes : Option DebugInfo) (name text : List ℕ) → IsItsRow name (command_with_arguments notes name text)
-unfolding command_with_arguments command_table command_place_from
+unfolding command_with_arguments command_table command_index_from_place
 arguments_row notes name text =
     row_if name (codes "run") _ _ refl (run_arguments notes text) (
     row_if name (codes "back") _ _ refl (back_arguments notes text) (query_row name (query_with_arguments name text) (with_arguments name text)))
 
-row_of_parts : (notes : Option DebugInfo) (parts : Option (List ℕ × List ℕ)) (line : List ℕ) → IsItsRow (command_word parts line) (command_of_parts notes parts line)
+row_of_parts : (notes : Option DebugInfo) (parts : Option (List ℕ × List ℕ)) (line : List ℕ) → IsItsRow (command_word parts line) (explorer_command_of_split_line notes parts line)
 row_of_parts notes None line = single_row line
 row_of_parts notes (Some parts) line = arguments_row notes parts.0 parts.1
 
-pub explored_class : (notes : Option DebugInfo) (line : List ℕ) (asked : ExplorerCommand) → command_of_line notes line ≡ Some asked → command_class_of_line line ≡ Some (class_of_explorer_command asked)
+pub explored_class : (notes : Option DebugInfo) (line : List ℕ) (asked : ExplorerCommand) → explorer_command_of_line notes line ≡ Some asked → command_class_of_line line ≡ Some (class_of_explorer_command asked)
 explored_class notes line asked e =
     let P : Option ExplorerCommand → Type 0 = IsItsRow (command_word (split_at_space line) line) in subst P e (row_of_parts notes (split_at_space line) line)
 
 -- ---- commands of the debugger
 
-pub debugged_class : (c : Command) (line : List ℕ) → SpellsCommand c line → command_class_of_line line ≡ Some (class_of_debugger_command c)
-unfolding command_table command_place_from
+pub debugged_class : (c : DebuggerCommand) (line : List ℕ) → SpellsCommand c line → command_class_of_line line ≡ Some (class_of_debugger_command c)
+unfolding command_table command_index_from_place
 debugged_class (Step node) line is = rw is refl
 debugged_class Back line is = rw is refl
 debugged_class (Rewind node k) line is = rw is.1 refl
@@ -183,22 +183,22 @@ explored_same : (e : ExplorerState) (asked : ExplorerCommand) (answer : List ℕ
 explored_same e (AnswerQuery question) answer new other_class does = does.1
 explored_same e other answer new other_class does = absurd (other_class refl)
 
-reply_same : (w : RefusalWording) (s : State) (c : Command) → class_of_debugger_command c ≢ Change → (reply_in_wording w s c).1 ≡ s
+reply_same : (w : RefusalWording) (s : MachineState) (c : DebuggerCommand) → class_of_debugger_command c ≢ Change → (reply_in_wording w s c).1 ≡ s
 reply_same w s (Step node) other_class = absurd (other_class refl)
 reply_same w s Back other_class = absurd (other_class refl)
 reply_same w s (Rewind node k) other_class = absurd (other_class refl)
 reply_same w s other other_class = refl
 
-does_same : (w : RefusalWording) (s : State) (c : Command) (answer : List ℕ) (new : State) → class_of_debugger_command c ≢ Change → IsCommandReply w s c answer new → new ≡ s
+does_same : (w : RefusalWording) (s : MachineState) (c : DebuggerCommand) (answer : List ℕ) (new : MachineState) → class_of_debugger_command c ≢ Change → IsCommandReply w s c answer new → new ≡ s
 does_same w s c answer new other_class (inl e) = ap (λ (r : Reply). r.1) e ∙ reply_same w s c other_class
 does_same w s c answer new other_class (inr refused) = refused.2
 
-line_same : (s : State) (line answer : List ℕ) (new : State) → command_class_of_line line ≢ Some Change → IsAnswerInWording Advised s line answer new → new ≡ s
+line_same : (s : MachineState) (line answer : List ℕ) (new : MachineState) → command_class_of_line line ≢ Some Change → IsAnswerInWording Advised s line answer new → new ≡ s
 line_same s line answer new other_class (long past text same) = same
 line_same s line answer new other_class (command c short spelled does) = does_same Advised s c answer new (λ is. other_class (debugged_class c line spelled ∙ ap (λ z. Some z) is)) does
 line_same s line answer new other_class (syntax short none text same) = same
 
-other_same : (s : State) (line answer : List ℕ) (new : State) → command_class_of_line line ≢ Some Change → AnswersOutsideExplorer s line answer new → new ≡ s
+other_same : (s : MachineState) (line answer : List ℕ) (new : MachineState) → command_class_of_line line ≢ Some Change → AnswersNonExplorerLine s line answer new → new ≡ s
 other_same s line answer new other_class (inl of) = line_same s line answer new other_class of.1
 other_same s line answer new other_class (inr none) = none.2
 

@@ -6,12 +6,12 @@ use Rattle.ga_text.specs.Input.{input_limit, UnreadInput}
 use Rattle.ga_text.specs.Image.{HasNoEndLine}
 use Rattle.ga_console.specs.Run.{ReadsOnlyImage}
 use Rattle.ga_console.specs.declared.run.Status.{Status}
-use Rattle.ga_explorer.specs.Opening.{ExplorerState, begins_as_image, is_read_as_image, OpensExplorer, OpensTextBeforeCommands, IsTextBeforeCommands, IsRefusedImage, IsSessionOpened}
+use Rattle.ga_explorer.specs.Opening.{ExplorerState, begins_as_image, is_read_as_image, OpensExplorer, OpensTextBeforeCommands, IsTextBeforeCommands, IsRefusedImage, IsSessionOpenResult}
 use Rattle.ga_explorer.specs.Opening.IsUnopenedSession.{image_refused, source_refused}
-use Rattle.ga_explorer.specs.inner.{IsOpened, IsFaultOf}
+use Rattle.ga_explorer.specs.inner.{IsExplorerOpenResult, IsOpenedImageFault}
 use Rattle.ga_explorer.specs.declared.opening.OpenError.TheVariants.{Image, Source}
 
-refused_image : (chip : Option (List ℕ)) (image ahead rest : List ℕ) (fault : ImageFault) → ReadsOnlyImage image ahead rest → IsFaultOf chip image fault
+refused_image : (chip : Option (List ℕ)) (image ahead rest : List ℕ) (fault : ImageFault) → ReadsOnlyImage image ahead rest → IsOpenedImageFault chip image fault
     → IsRefusedImage chip (image ++ ahead) rest fault
 refused_image None image ahead rest fault part (is, inl e) = inl e
 refused_image None image ahead rest fault part (is, inr e) = inr (record { image = image; ahead = ahead; splits = refl; part = part; faulty = e }, is)
@@ -20,7 +20,7 @@ refused_image (Some given) image ahead rest fault part e = inr (record { source 
 -- of a text that was read whole
 pub begun_after : (chip : Option (List ℕ)) (limit : ℕ) (left text : List ℕ) (input : UnreadInput) (rest written : List ℕ) (result : Result ExplorerState Status) → left ≡ text ++ (input.bytes ++ rest)
     → left ≡ (text ++ input.bytes) ++ rest → input.taken ≡ length text → IsTextBeforeCommands text (input.bytes ++ rest) → ReadsOnlyImage text input.bytes rest
-    → IsOpened chip limit text written result → IsSessionOpened chip limit left input rest written result
+    → IsExplorerOpenResult chip limit text written result → IsSessionOpenResult chip limit left input rest written result
 begun_after chip limit left text input rest written (Ok begun) split whole taken front alone opened = (opened.0, text, split, taken, front, opened.1)
 begun_after chip limit left text input rest written (Err status) split whole taken front alone (Image fault, why, declined) =
     (text ++ input.bytes, whole, image_refused fault (refused_image chip text input.bytes rest fault alone why) declined)
@@ -45,7 +45,7 @@ not_so_long (Some given) limit text begun full is opens = absurd (cc)
 
 -- No image that is accepted reaches the bound of the input.
 pub begun_full : (chip : Option (List ℕ)) (limit byte : ℕ) (left text : List ℕ) (input : UnreadInput) (rest written : List ℕ) (result : Result ExplorerState Status) → left ≡ (text ++ byte ∷ []) ++ rest
-    → length text ≡ input_limit → HasNoEndLine text → is_read_as_image chip text ≡ true → IsOpened chip limit text written result → IsSessionOpened chip limit left input rest written result
+    → length text ≡ input_limit → HasNoEndLine text → is_read_as_image chip text ≡ true → IsExplorerOpenResult chip limit text written result → IsSessionOpenResult chip limit left input rest written result
 begun_full chip limit byte left text input rest written (Ok begun) whole full none is opened = absurd (not_so_long chip limit text begun full is opened.1)
 begun_full chip limit byte left text input rest written (Err status) whole full none is (Image fault, why, declined) =
     (text ++ byte ∷ [], whole, image_refused fault (refused_image chip text (byte ∷ []) rest fault (inr (inr (full, refl, none))) why) declined)

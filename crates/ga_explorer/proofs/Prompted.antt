@@ -7,15 +7,15 @@ use Rattle.ga_text.specs.Lines.{terminated_lines}
 use Rattle.ga_display.specs.Texts.{input_limit_refusal}
 use Rattle.ga_text.specs.Output.{TextHasPrefix, IsTextTruncated, IsTextWrittenOrTruncated}
 use Rattle.ga_text.proofs.WriteLemmas.{at_err, truncated_here, truncated_within}
-use Rattle.ga_console.specs.Session.{AnswersLine, ServesCommands, ServesToWriteFailureBy, IsWholeOrPrefixOnWriteError, lines_within_bound}
-use Rattle.ga_console.specs.inner.Run.{AnswersOrEnds, AnswersCommand, ObeysCommand}
-use Rattle.ga_console.specs.declared.command.Command.{Command}
+use Rattle.ga_console.specs.Session.{AnswersLine, ServesCommands, ServesToWriteFailure, IsWholeOrPrefixOnWriteError, lines_within_input_limit}
+use Rattle.ga_console.specs.inner.Run.{AnswersLineOrEnds, AnswersCommand, AnswersCommandOrEnds}
+use Rattle.ga_console.specs.declared.command.DebuggerCommand.{DebuggerCommand}
 use Rattle.ga_console.specs.declared.commands.CommandsEnd.{CommandsEnd}
 use Rattle.ga_console.specs.declared.responder.LineAction.{LineAction}
 use Rattle.ga_console.specs.declared.responder.LineAction.TheVariants as turn
 use Rattle.ga_explorer.specs.Opening.{ExplorerState}
-use Rattle.ga_explorer.specs.Session.{prompt, AnswersAndContinues, AnswersAndEndsSession, AnswersWithPrompt}
-use Rattle.ga_explorer.specs.inner.{PromptsFor, EndsPrompting}
+use Rattle.ga_explorer.specs.Session.{prompt_text, AnswersLineAndContinues, AnswersAndEndsSession, AnswersWithPrompt}
+use Rattle.ga_explorer.specs.inner.{PromptingSessionGoesOn, PromptingSessionEnds}
 use Rattle.ga_explorer.specs.declared.prompting.PromptedExplorer.{PromptedExplorer}
 use Rattle.ga_explorer.specs.declared.strict.StrictExplorer.{StrictExplorer}
 use Rattle.ga_explorer.proofs.Serving.{serves_seen}
@@ -24,72 +24,72 @@ use Rattle.ga_explorer.proofs.StrictLemmas.{GoesOn, EndsStrictly}
 -- how a session that may prompt answers a line after which it goes on, and one at which it ends
 abbrev pub AnswersPrompted : PromptedExplorer → List ℕ → List ℕ → PromptedExplorer → Type 0
 AnswersPrompted p line written new =
-    PromptsFor p.is_prompted p.explorer.is_strict p.explorer.explorer line written new.is_prompted new.explorer.is_strict new.explorer.explorer
+    PromptingSessionGoesOn p.is_prompted p.explorer.is_strict p.explorer.explorer line written new.is_prompted new.explorer.is_strict new.explorer.explorer
 
 abbrev pub EndsPrompted : PromptedExplorer → List ℕ → List ℕ → PromptedExplorer → Type 0
 EndsPrompted p line answer new =
-    EndsPrompting p.is_prompted p.explorer.is_strict p.explorer.explorer line answer new.is_prompted new.explorer.is_strict new.explorer.explorer
+    PromptingSessionEnds p.is_prompted p.explorer.is_strict p.explorer.explorer line answer new.is_prompted new.explorer.is_strict new.explorer.explorer
 
-prompts_after : (prompts strict : Bool) (e : ExplorerState) (line answer : List ℕ) (new : ExplorerState) → AnswersAndContinues strict e line answer new
-    → AnswersWithPrompt prompts strict e line (answer ++ prompt prompts) new
+prompts_after : (prompts strict : Bool) (e : ExplorerState) (line answer : List ℕ) (new : ExplorerState) → AnswersLineAndContinues strict e line answer new
+    → AnswersWithPrompt prompts strict e line (answer ++ prompt_text prompts) new
 prompts_after true strict e line answer new h = (answer, h, refl)
-prompts_after false strict e line answer new h = subst (λ (t : List ℕ). AnswersAndContinues strict e line t new) (sym (append-nil answer)) h
+prompts_after false strict e line answer new h = subst (λ (t : List ℕ). AnswersLineAndContinues strict e line t new) (sym (append-nil answer)) h
 
 module _ (p : PromptedExplorer) (after : StrictExplorer) where
   -- the machine after an answer
   abbrev pub on : PromptedExplorer
   on = record p { explorer = after }
 
-  one_goes : (line answer : List ℕ) → GoesOn p.explorer line answer after → AnswersPrompted p line (answer ++ prompt p.is_prompted) on
+  one_goes : (line answer : List ℕ) → GoesOn p.explorer line answer after → AnswersPrompted p line (answer ++ prompt_text p.is_prompted) on
   one_goes line answer h = (prompts_after p.is_prompted p.explorer.is_strict p.explorer.explorer line answer after.explorer h.0, h.1, refl)
 
   one_ends : (line answer : List ℕ) → EndsStrictly p.explorer line answer after → EndsPrompted p line answer on
   one_ends line answer h = (h.0, h.1, refl)
 
-  pub prompted_line : (line answer : List ℕ) → AnswersLine GoesOn p.explorer line answer after → AnswersLine AnswersPrompted p line (answer ++ prompt p.is_prompted) on
+  pub prompted_line : (line answer : List ℕ) → AnswersLine GoesOn p.explorer line answer after → AnswersLine AnswersPrompted p line (answer ++ prompt_text p.is_prompted) on
   prompted_line line answer h = λ part kept. (one_goes part answer (h part kept).0, (h part kept).1)
 
   pub ended_line : (line answer : List ℕ) → AnswersLine EndsStrictly p.explorer line answer after → AnswersLine EndsPrompted p line answer on
   ended_line line answer h = λ part kept. (one_ends part answer (h part kept).0, (h part kept).1)
 
-  pub prompted_command : (asked : Command) (answer : List ℕ) → AnswersCommand GoesOn p.explorer asked after answer → AnswersCommand AnswersPrompted p asked on (answer ++ prompt p.is_prompted)
+  pub prompted_command : (asked : DebuggerCommand) (answer : List ℕ) → AnswersCommand GoesOn p.explorer asked after answer → AnswersCommand AnswersPrompted p asked on (answer ++ prompt_text p.is_prompted)
   prompted_command asked answer h = λ line short spelled. one_goes line answer (h line short spelled)
 
-  pub ended_command : (asked : Command) (answer : List ℕ) → AnswersCommand EndsStrictly p.explorer asked after answer → AnswersCommand EndsPrompted p asked on answer
+  pub ended_command : (asked : DebuggerCommand) (answer : List ℕ) → AnswersCommand EndsStrictly p.explorer asked after answer → AnswersCommand EndsPrompted p asked on answer
   ended_command asked answer h = λ line short spelled. one_ends line answer (h line short spelled)
 
   -- the line `quit`, which gets no prompt
-  pub quit_turn : (line text : List ℕ) → AnswersOrEnds GoesOn EndsStrictly p.explorer line after (Ok turn.Quit) text → AnswersOrEnds AnswersPrompted EndsPrompted p line on (Ok turn.Quit) text
+  pub quit_turn : (line text : List ℕ) → AnswersLineOrEnds GoesOn EndsStrictly p.explorer line after (Ok turn.Quit) text → AnswersLineOrEnds AnswersPrompted EndsPrompted p line on (Ok turn.Quit) text
   quit_turn line text h = (h.0, ap (λ e. record p { explorer = e }) h.1, h.2)
 
   -- a failed write of an answer
   pub line_err : (line answer : List ℕ) (result : Result LineAction WriteError) (contents : Option (List ℕ)) (before said pending : List ℕ) → IsErr result
       → AnswersLine GoesOn p.explorer line answer after ⊎ AnswersLine EndsStrictly p.explorer line answer after → IsTextTruncated contents before (said ++ answer)
-      → (text : List ℕ) × AnswersOrEnds AnswersPrompted EndsPrompted p line on result text × IsTextWrittenOrTruncated result contents before (said ++ text) pending
+      → (text : List ℕ) × AnswersLineOrEnds AnswersPrompted EndsPrompted p line on result text × IsTextWrittenOrTruncated result contents before (said ++ text) pending
   line_err line answer result contents before said pending failed (inl h) cut =
-      let text : List ℕ = answer ++ prompt p.is_prompted in (
+      let text : List ℕ = answer ++ prompt_text p.is_prompted in (
         text,
-        at_err (λ r. AnswersOrEnds AnswersPrompted EndsPrompted p line on r text) result failed (λ why. inl (prompted_line line answer h)),
-        truncated_here result contents before (said ++ text) pending failed (truncated_within contents before said answer (prompt p.is_prompted) text refl cut),
+        at_err (λ r. AnswersLineOrEnds AnswersPrompted EndsPrompted p line on r text) result failed (λ why. inl (prompted_line line answer h)),
+        truncated_here result contents before (said ++ text) pending failed (truncated_within contents before said answer (prompt_text p.is_prompted) text refl cut),
       )
   line_err line answer result contents before said pending failed (inr h) cut = (
     answer,
-    at_err (λ r. AnswersOrEnds AnswersPrompted EndsPrompted p line on r answer) result failed (λ why. inr (ended_line line answer h)),
+    at_err (λ r. AnswersLineOrEnds AnswersPrompted EndsPrompted p line on r answer) result failed (λ why. inr (ended_line line answer h)),
     truncated_here result contents before (said ++ answer) pending failed cut,
   )
 
-  pub command_err : (asked : Command) (answer : List ℕ) (result : Result LineAction WriteError) (contents : Option (List ℕ)) (before said pending : List ℕ) → IsErr result
+  pub command_err : (asked : DebuggerCommand) (answer : List ℕ) (result : Result LineAction WriteError) (contents : Option (List ℕ)) (before said pending : List ℕ) → IsErr result
       → AnswersCommand GoesOn p.explorer asked after answer ⊎ AnswersCommand EndsStrictly p.explorer asked after answer → IsTextTruncated contents before (said ++ answer)
-      → (text : List ℕ) × ObeysCommand AnswersPrompted EndsPrompted p asked on result text × IsTextWrittenOrTruncated result contents before (said ++ text) pending
+      → (text : List ℕ) × AnswersCommandOrEnds AnswersPrompted EndsPrompted p asked on result text × IsTextWrittenOrTruncated result contents before (said ++ text) pending
   command_err asked answer result contents before said pending failed (inl h) cut =
-      let text : List ℕ = answer ++ prompt p.is_prompted in (
+      let text : List ℕ = answer ++ prompt_text p.is_prompted in (
         text,
-        at_err (λ r. ObeysCommand AnswersPrompted EndsPrompted p asked on r text) result failed (λ why. inl (prompted_command asked answer h)),
-        truncated_here result contents before (said ++ text) pending failed (truncated_within contents before said answer (prompt p.is_prompted) text refl cut),
+        at_err (λ r. AnswersCommandOrEnds AnswersPrompted EndsPrompted p asked on r text) result failed (λ why. inl (prompted_command asked answer h)),
+        truncated_here result contents before (said ++ text) pending failed (truncated_within contents before said answer (prompt_text p.is_prompted) text refl cut),
       )
   command_err asked answer result contents before said pending failed (inr h) cut = (
     answer,
-    at_err (λ r. ObeysCommand AnswersPrompted EndsPrompted p asked on r answer) result failed (λ why. inr (ended_command asked answer h)),
+    at_err (λ r. AnswersCommandOrEnds AnswersPrompted EndsPrompted p asked on r answer) result failed (λ why. inr (ended_command asked answer h)),
     truncated_here result contents before (said ++ answer) pending failed cut,
   )
 
@@ -110,10 +110,10 @@ serves_prompted room prompts strict p read rest text last ending is tight h =
 
 -- where nothing was answered yet when a write failed
 pub nothing_served : (prompts strict : Bool) (room : ℕ) (e : ExplorerState) (read rest : List ℕ)
-    → ServesToWriteFailureBy input_limit_refusal (AnswersWithPrompt prompts strict) (AnswersAndEndsSession strict) room e read rest [] e
+    → ServesToWriteFailure input_limit_refusal (AnswersWithPrompt prompts strict) (AnswersAndEndsSession strict) room e read rest [] e
 nothing_served prompts strict room e read rest = record {
   heard = [];
-  after = lines_within_bound room read;
+  after = lines_within_input_limit room read;
   front = refl;
   no_quit = tt;
   script = inl (refl, refl);

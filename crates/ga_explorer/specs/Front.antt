@@ -19,12 +19,12 @@ abbrev pub ends_with_bare_end_line : Text → Bool
 ends_with_bare_end_line text = pointwise nat_eq text (codes "end") || ends_with nat_eq text (codes "\nend")
 
 -- the text is an image that has no line `end`
-abbrev pub lacks_end_line : Text → Bool
-lacks_end_line text = begins_as_image text && (not (contains_end_line text) && not (ends_with_bare_end_line text))
+abbrev pub is_image_lacking_end_line : Text → Bool
+is_image_lacking_end_line text = begins_as_image text && (not (contains_end_line text) && not (ends_with_bare_end_line text))
 
 -- what a text needs so that commands can follow it: nothing, the line feed of its last line, or the line `end`
-abbrev pub missing_end_text : Text → Text
-missing_end_text text =
+abbrev pub end_line_completion : Text → Text
+end_line_completion text =
     if contains_end_line text then []
     else if ends_with_bare_end_line text then codes "\n"
     else if (length text == 0) || ends_with nat_eq text (codes "\n") then codes "end\n"
@@ -32,4 +32,4 @@ missing_end_text text =
 
 -- the text with what it needs so that commands can follow it
 abbrev pub text_with_end_line : Text → Text
-text_with_end_line text = text ++ missing_end_text text
+text_with_end_line text = text ++ end_line_completion text

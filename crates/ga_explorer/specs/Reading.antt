@@ -14,17 +14,17 @@ use Rattle.ga_event.specs.declared.flow.part.NodePart.{NodePart}
 use Rattle.ga_event.specs.declared.flow.part.NodePart.TheVariants as part
 use Rattle.ga_ports.specs.Steps.{◌>>=◌}
 use Rattle.ga_text.specs.Digits.{hex_byte_value}
-use Rattle.ga_scheduler.specs.Schedules.{round_robin, greedy, random}
+use Rattle.ga_scheduler.specs.Schedules.{round_robin_schedule, greedy_schedule, random_schedule}
 use Rattle.ga_scheduler.specs.declared.schedule.Schedule.{Schedule}
 use Rattle.ga_debug_info.specs.declared.notes.DebugInfo.{DebugInfo}
-use Rattle.ga_conditions.specs.Conditions.{parsed_run_conditions, parsed_until, no_conditions}
+use Rattle.ga_conditions.specs.Conditions.{parsed_run_conditions, parsed_until_conditions, never_holding_conditions}
 use Rattle.ga_explorer.specs.declared.commands.ExplorerCommand.{ExplorerCommand}
 use Rattle.ga_explorer.specs.declared.commands.ExplorerCommand.TheVariants.{Run, BackUntil}
 
 -- ---- which part of a node a command means: RAM is below address 80 hexadecimal, ROM from there on
 
 abbrev pub part_of_node_value : NodeValue → Option NodePart
-part_of_node_value value.Step = None
+part_of_node_value value.StepCountValue = None
 part_of_node_value value.P = Some part.P
 part_of_node_value value.A = Some part.A
 part_of_node_value value.B = Some part.B
@@ -37,67 +37,67 @@ part_of_node_value (value.ReturnWord place) = Some (part.Return (place % 9))
 part_of_node_value (value.Cell address) = Some (if nat_lt address 128 then part.Ram (address % 64) else part.Rom (address % 64))
 
 -- a value that is a part of a node: all but the number of its steps are
-abbrev pub value_with_part : NodeValue → Option NodeValue
-value_with_part value.Step = None
-value_with_part other = Some other
+abbrev pub value_if_node_part : NodeValue → Option NodeValue
+value_if_node_part value.StepCountValue = None
+value_if_node_part other = Some other
 
 abbrev pub parse_part_value : Line → Option NodeValue
-parse_part_value word = option_and_then value_with_part (parsed_node_value word)
+parse_part_value word = option_and_then value_if_node_part (parsed_node_value word)
 
 -- how many events are made at most where no number is given
-abbrev pub max_run_events : ℕ
-max_run_events = 4294967295
+abbrev pub default_max_run_events : ℕ
+default_max_run_events = 4294967295
 
 -- ---- `run`
 
-abbrev pub run_until : Option DebugInfo → Schedule → ℕ → Line → Option ExplorerCommand
-run_until notes schedule most text = option_map (Run schedule most) (parsed_run_conditions notes text)
+abbrev pub run_until_command : Option DebugInfo → Schedule → ℕ → Line → Option ExplorerCommand
+run_until_command notes schedule most text = option_map (Run schedule most) (parsed_run_conditions notes text)
 
 -- `until COND`, or a number and `until COND`
-unfoldable pub run_bounds_of_words : Option DebugInfo → Schedule → Line → Line → Option ExplorerCommand
-run_bounds_of_words notes schedule name text =
-    if pointwise nat_eq name (codes "until") then run_until notes schedule max_run_events text
+unfoldable pub run_command_with_bounds : Option DebugInfo → Schedule → Line → Line → Option ExplorerCommand
+run_command_with_bounds notes schedule name text =
+    if pointwise nat_eq name (codes "until") then run_until_command notes schedule default_max_run_events text
     else (do
       most ← parse_number name
-      until ← parsed_until notes text
+      until ← parsed_until_conditions notes text
       Some (Run schedule most until))
 
-abbrev pub run_bounds_of_parts : Option DebugInfo → Option (Line × Line) → Schedule → Line → Option ExplorerCommand
-run_bounds_of_parts notes None schedule text = option_map (λ most. Run schedule most no_conditions) (parse_number text)
-run_bounds_of_parts notes (Some parts) schedule text = run_bounds_of_words notes schedule parts.0 parts.1
+abbrev pub parse_split_run_bounds : Option DebugInfo → Option (Line × Line) → Schedule → Line → Option ExplorerCommand
+parse_split_run_bounds notes None schedule text = option_map (λ most. Run schedule most never_holding_conditions) (parse_number text)
+parse_split_run_bounds notes (Some parts) schedule text = run_command_with_bounds notes schedule parts.0 parts.1
 
 -- a number, `until COND`, or both
 abbrev pub parse_run_bounds : Option DebugInfo → Schedule → Line → Option ExplorerCommand
-parse_run_bounds notes schedule text = run_bounds_of_parts notes (split_at_space text) schedule text
+parse_run_bounds notes schedule text = parse_split_run_bounds notes (split_at_space text) schedule text
 
-abbrev pub seeded_run_of_parts : Option DebugInfo → Option (Line × Line) → Line → Option ExplorerCommand
-seeded_run_of_parts notes None text = option_map (λ seed. Run (random seed) max_run_events no_conditions) (parse_number text)
-seeded_run_of_parts notes (Some parts) text = do
+abbrev pub parse_split_seeded_run : Option DebugInfo → Option (Line × Line) → Line → Option ExplorerCommand
+parse_split_seeded_run notes None text = option_map (λ seed. Run (random_schedule seed) default_max_run_events never_holding_conditions) (parse_number text)
+parse_split_seeded_run notes (Some parts) text = do
   seed ← parse_number parts.0
-  parse_run_bounds notes (random seed) parts.1
+  parse_run_bounds notes (random_schedule seed) parts.1
 
 -- a seed, and what bounds the run
 abbrev pub parse_seeded_run : Option DebugInfo → Line → Option ExplorerCommand
-parse_seeded_run notes text = seeded_run_of_parts notes (split_at_space text) text
+parse_seeded_run notes text = parse_split_seeded_run notes (split_at_space text) text
 
 -- an order of one word, or what bounds a run in rounds
 unfoldable pub parse_single_order : Option DebugInfo → Line → Option ExplorerCommand
-parse_single_order notes text = if pointwise nat_eq text (codes "greedy") then Some (Run greedy max_run_events no_conditions) else parse_run_bounds notes round_robin text
+parse_single_order notes text = if pointwise nat_eq text (codes "greedy") then Some (Run greedy_schedule default_max_run_events never_holding_conditions) else parse_run_bounds notes round_robin_schedule text
 
 -- an order with what follows it, or what bounds a run in rounds
 unfoldable pub parse_named_order : Option DebugInfo → Line → Line → Line → Option ExplorerCommand
 parse_named_order notes name rest text =
-    if pointwise nat_eq name (codes "greedy") then parse_run_bounds notes greedy rest
+    if pointwise nat_eq name (codes "greedy") then parse_run_bounds notes greedy_schedule rest
     else if pointwise nat_eq name (codes "random") then parse_seeded_run notes rest
-    else parse_run_bounds notes round_robin text
+    else parse_run_bounds notes round_robin_schedule text
 
-abbrev pub run_command_of_parts : Option DebugInfo → Option (Line × Line) → Line → Option ExplorerCommand
-run_command_of_parts notes None text = parse_single_order notes text
-run_command_of_parts notes (Some parts) text = parse_named_order notes parts.0 parts.1 text
+abbrev pub parse_split_run_arguments : Option DebugInfo → Option (Line × Line) → Line → Option ExplorerCommand
+parse_split_run_arguments notes None text = parse_single_order notes text
+parse_split_run_arguments notes (Some parts) text = parse_named_order notes parts.0 parts.1 text
 
 -- the arguments of `run`
 abbrev pub parse_run_arguments : Option DebugInfo → Line → Option ExplorerCommand
-parse_run_arguments notes text = run_command_of_parts notes (split_at_space text) text
+parse_run_arguments notes text = parse_split_run_arguments notes (split_at_space text) text
 
 -- ---- `back until`
 
@@ -105,19 +105,19 @@ abbrev pub back_until_command : Option DebugInfo → Line → Option ExplorerCom
 back_until_command notes text = option_map (BackUntil None) (parsed_run_conditions notes text)
 
 -- `until COND or COND ..`, or a node before it
-unfoldable pub back_command_of_words : Option DebugInfo → Line → Line → Option ExplorerCommand
-back_command_of_words notes name text =
+unfoldable pub parse_back_command_words : Option DebugInfo → Line → Line → Option ExplorerCommand
+parse_back_command_words notes name text =
     if pointwise nat_eq name (codes "until") then back_until_command notes text
     else (do
       node ← parse_node name
-      until ← parsed_until notes text
+      until ← parsed_until_conditions notes text
       Some (BackUntil (Some node) until))
 
 -- the arguments of `back`
 unfoldable pub parse_back_arguments : Option DebugInfo → Line → Option ExplorerCommand
 parse_back_arguments notes text = do
   parts ← split_at_space text
-  back_command_of_words notes parts.0 parts.1
+  parse_back_command_words notes parts.0 parts.1
 
 -- ---- the arguments of a command
 
@@ -130,21 +130,21 @@ parse_node_and_step text = do
   Some (node, which)
 
 -- the number of a line, from 1 on; and `from L`
-abbrev pub line_number : Line → Option ℕ
-line_number text = option_and_then (λ number. if number == 0 then None else Some number) (parse_number text)
+abbrev pub parse_line_number : Line → Option ℕ
+parse_line_number text = option_and_then (λ number. if number == 0 then None else Some number) (parse_number text)
 
 abbrev pub parse_line_number_after_from : Line × Line → Option ℕ
-parse_line_number_after_from parts = if pointwise nat_eq parts.0 (codes "from") then line_number parts.1 else None
+parse_line_number_after_from parts = if pointwise nat_eq parts.0 (codes "from") then parse_line_number parts.1 else None
 
 abbrev pub parse_from_line_number : Line → Option ℕ
 parse_from_line_number text = option_and_then parse_line_number_after_from (split_at_space text)
 
 -- `VALUE`, `from L` or `VALUE from L`: a value, and the number of the first line
-abbrev pub value_and_line_of_parts : Option (Line × Line) → Line → Option (Option NodeValue × ℕ)
-value_and_line_of_parts None text = option_map (λ value. (Some value, 1)) (parse_part_value text)
-value_and_line_of_parts (Some parts) text =
+abbrev pub parse_split_value_and_line : Option (Line × Line) → Line → Option (Option NodeValue × ℕ)
+parse_split_value_and_line None text = option_map (λ value. (Some value, 1)) (parse_part_value text)
+parse_split_value_and_line (Some parts) text =
     if pointwise nat_eq parts.0 (codes "from") then (do
-      line ← line_number parts.1
+      line ← parse_line_number parts.1
       Some (None, line))
     else (do
       value ← parse_part_value parts.0
@@ -152,18 +152,18 @@ value_and_line_of_parts (Some parts) text =
       Some (Some value, line))
 
 abbrev pub parse_value_and_line : Line → Option (Option NodeValue × ℕ)
-parse_value_and_line text = value_and_line_of_parts (split_at_space text) text
+parse_value_and_line text = parse_split_value_and_line (split_at_space text) text
 
 -- `K [VALUE] [from L]`
-abbrev pub step_and_value_of_parts : Option (Line × Line) → Line → Option (StepSelector × Option NodeValue × ℕ)
-step_and_value_of_parts None text = option_map (λ which. (which, None, 1)) (parse_step_selector text)
-step_and_value_of_parts (Some parts) text = do
+abbrev pub parse_split_step_and_value : Option (Line × Line) → Line → Option (StepSelector × Option NodeValue × ℕ)
+parse_split_step_and_value None text = option_map (λ which. (which, None, 1)) (parse_step_selector text)
+parse_split_step_and_value (Some parts) text = do
   which ← parse_step_selector parts.0
   asked ← parse_value_and_line parts.1
   Some (which, asked.0, asked.1)
 
 abbrev pub parse_step_and_value : Line → Option (StepSelector × Option NodeValue × ℕ)
-parse_step_and_value text = step_and_value_of_parts (split_at_space text) text
+parse_step_and_value text = parse_split_step_and_value (split_at_space text) text
 
 -- `NNN K [VALUE] [from L]`
 unfoldable pub parse_node_and_value : Line → Option (NodeId × StepSelector × Option NodeValue × ℕ)
@@ -196,19 +196,19 @@ default_around_steps = 3
 abbrev pub max_around_steps : ℕ
 max_around_steps = 99
 
-abbrev pub within_max_steps : StepSelector → ℕ → Option (StepSelector × ℕ)
-within_max_steps which many = if nat_le many max_around_steps then Some (which, many) else None
+abbrev pub step_and_count_within_max : StepSelector → ℕ → Option (StepSelector × ℕ)
+step_and_count_within_max which many = if nat_le many max_around_steps then Some (which, many) else None
 
-abbrev pub step_and_count_of_parts : Option (Line × Line) → Line → Option (StepSelector × ℕ)
-step_and_count_of_parts None text = option_map (λ which. (which, default_around_steps)) (parse_step_selector text)
-step_and_count_of_parts (Some parts) text = do
+abbrev pub parse_split_step_and_count : Option (Line × Line) → Line → Option (StepSelector × ℕ)
+parse_split_step_and_count None text = option_map (λ which. (which, default_around_steps)) (parse_step_selector text)
+parse_split_step_and_count (Some parts) text = do
   which ← parse_step_selector parts.0
   many ← parse_number parts.1
-  within_max_steps which many
+  step_and_count_within_max which many
 
 -- `K` or `K N`: a step, and how many further steps are written
 abbrev pub parse_step_and_count : Line → Option (StepSelector × ℕ)
-parse_step_and_count text = step_and_count_of_parts (split_at_space text) text
+parse_step_and_count text = parse_split_step_and_count (split_at_space text) text
 
 -- `NNN K` or `NNN K N`
 unfoldable pub parse_node_and_steps : Line → Option (NodeId × StepSelector × ℕ)

@@ -1,7 +1,7 @@
 //! The arguments of commands, as lines have them.
 
 ghost use Rattle.std.specs.Prelude.{◌≡◌};
-ghost use Rattle.ga_explorer.specs.Reading.{parse_node_and_step, parse_two_nodes, parse_node_and_cell, parse_node_and_steps, parse_node_and_value, parse_step_and_value, parse_value_and_line, parse_from_line_number, line_number, parse_step_and_count};
+ghost use Rattle.ga_explorer.specs.Reading.{parse_node_and_step, parse_two_nodes, parse_node_and_cell, parse_node_and_steps, parse_node_and_value, parse_step_and_value, parse_value_and_line, parse_from_line_number, parse_line_number, parse_step_and_count};
 
 use crate::named_value::parse_part_value;
 use ga_console::StepSelector;
@@ -86,7 +86,7 @@ fn parse_value_and_line(text: &[u8]) -> Option<(Option<NodeValue>, u32)>
     match split_at_space(text) {
         Some((first, rest)) => {
             if first == b"from".as_slice() {
-                Some((None, line_number(rest)?))
+                Some((None, parse_line_number(rest)?))
             } else {
                 let value = parse_part_value(first)?;
                 Some((Some(value), parse_from_line_number(rest)?))
@@ -102,15 +102,15 @@ fn parse_from_line_number(text: &[u8]) -> Option<u32>
 {
     let (from, number) = split_at_space(text)?;
     if from == b"from".as_slice() {
-        line_number(number)
+        parse_line_number(number)
     } else {
         None
     }
 }
 
 /// The number of a line, from 1 on.
-fn line_number(text: &[u8]) -> Option<u32>
-    ensures { result ≡ line_number text.now }
+fn parse_line_number(text: &[u8]) -> Option<u32>
+    ensures { result ≡ parse_line_number text.now }
 {
     let number = parse_number(text)?;
     if number == 0 { None } else { Some(number) }

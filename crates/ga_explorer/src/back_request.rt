@@ -1,10 +1,10 @@
 //! The arguments of `back`: `until` and conditions, for every event or for the steps of a node.
 
 ghost use Rattle.std.specs.Prelude.{◌≡◌};
-ghost use Rattle.ga_explorer.specs.Reading.{parse_back_arguments, back_command_of_words, back_until_command};
+ghost use Rattle.ga_explorer.specs.Reading.{parse_back_arguments, parse_back_command_words, back_until_command};
 
 use crate::commands::ExplorerCommand;
-use ga_conditions::{parse_conditions, parse_until};
+use ga_conditions::{parse_conditions, parse_until_conditions};
 use ga_debug_info::DebugInfo;
 use ga_text::{parse_node, split_at_space};
 
@@ -14,23 +14,23 @@ pub(crate) fn parse_back(notes: &Option<DebugInfo>, text: &[u8]) -> Option<Explo
     ensures { result ≡ parse_back_arguments notes.now text.now }
 {
     let (name, rest) = split_at_space(text)?;
-    back_command_of_words(notes, name, rest)
+    parse_back_command_words(notes, name, rest)
 }
 
 /// `until` and conditions, or a node before these.
-#[tactic(auto, unfolding(crate::specs::Reading::back_command_of_words))]
-fn back_command_of_words(
+#[tactic(auto, unfolding(crate::specs::Reading::parse_back_command_words))]
+fn parse_back_command_words(
     notes: &Option<DebugInfo>,
     name: &[u8],
     rest: &[u8],
 ) -> Option<ExplorerCommand>
-    ensures { result ≡ back_command_of_words notes.now name.now rest.now }
+    ensures { result ≡ parse_back_command_words notes.now name.now rest.now }
 {
     match name {
         b"until" => back_until_command(notes, rest),
         _ => {
             let node = parse_node(name)?;
-            let until = parse_until(notes, rest)?;
+            let until = parse_until_conditions(notes, rest)?;
             Some(ExplorerCommand::BackUntil {
                 only: Some(node),
                 until,

@@ -2,14 +2,14 @@
 ghost use Rattle.std.specs.Prelude.{◌≡◌, ◌++◌, [], Some};
 ghost use Rattle.ga_text.specs.Lines.{Bytes};
 ghost use Rattle.ga_text.specs.Input.{IsWithinInputLimit};
-ghost use Rattle.ga_explorer.specs.Opening.{IsSessionOpened, image_text_of};
-ghost use Rattle.ga_explorer.specs.inner.{IsOpened};
+ghost use Rattle.ga_explorer.specs.Opening.{IsSessionOpenResult, optional_image_text};
+ghost use Rattle.ga_explorer.specs.inner.{IsExplorerOpenResult};
 
 use crate::explorer::Explorer;
 use crate::opening::{NO_MEMORY, OpenError, is_read_as_image, open_text};
 use ga_console::{Status, write_image_refusal};
 use ga_debug_info::report_input_too_long;
-use ga_text::{ImageEnd, Input, read_image};
+use ga_text::{ImageReadEnd, InputBuffer, read_image};
 use std::alloc::Global;
 use std::io::{Read, Write};
 
@@ -21,7 +21,7 @@ use std::io::{Read, Write};
 /// The status of a session that ends so.
 pub fn open_lab<R: Read, W: Write, E: Write>(
     alloc: Global,
-    input: &mut Input,
+    input: &mut InputBuffer,
     reader: &mut R,
     writer: &mut W,
     errors: &mut E,
@@ -32,14 +32,14 @@ pub fn open_lab<R: Read, W: Write, E: Write>(
     ensures begun { (left before : Bytes) →
         R.remaining reader.old ≡ Some left → W.contents writer.old ≡ Some before →
         (rest text : Bytes) × (R.remaining reader.new ≡ Some rest) × (W.contents writer.new ≡ Some (before ++ text))
-        × IsSessionOpened (image_text_of chip) limit left input.new rest text result }
+        × IsSessionOpenResult (optional_image_text chip) limit left input.new rest text result }
     ensures within { IsWithinInputLimit input.new }
 {
     let mut text = Vec::new(alloc);
     match read_image(input, reader, &mut text) {
         Err(_) => Err(write_image_refusal(writer, NO_MEMORY)),
-        Ok(ImageEnd::Failed) => Err(Status::StreamFault),
-        Ok(ImageEnd::Past) => {
+        Ok(ImageReadEnd::Failed) => Err(Status::StreamFault),
+        Ok(ImageReadEnd::PastLimit) => {
             // No image that is accepted is so long.
             if is_read_as_image(&chip, text.as_slice()) {
                 return open_or_refuse(alloc, writer, errors, text, chip, limit);
@@ -47,8 +47,8 @@ pub fn open_lab<R: Read, W: Write, E: Write>(
             let _written = report_input_too_long(errors);
             Err(Status::ImageRefused)
         }
-        Ok(ImageEnd::Ended) => open_or_refuse(alloc, writer, errors, text, chip, limit),
-        Ok(ImageEnd::EndLine) => open_or_refuse(alloc, writer, errors, text, chip, limit),
+        Ok(ImageReadEnd::EndOfInput) => open_or_refuse(alloc, writer, errors, text, chip, limit),
+        Ok(ImageReadEnd::EndLine) => open_or_refuse(alloc, writer, errors, text, chip, limit),
     }
 }
 
@@ -62,7 +62,7 @@ fn open_or_refuse<W: Write, E: Write>(
     limit: u32,
 ) -> Result<Explorer, Status>
     ensures { (before : Bytes) → W.contents writer.old ≡ Some before →
-        (written : Bytes) × (W.contents writer.new ≡ Some (before ++ written)) × IsOpened (image_text_of chip) limit text.items written result }
+        (written : Bytes) × (W.contents writer.new ≡ Some (before ++ written)) × IsExplorerOpenResult (optional_image_text chip) limit text.items written result }
 {
     match open_text(alloc, errors, text, chip, limit) {
         Ok(begun) => Ok(begun),

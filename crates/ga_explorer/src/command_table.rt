@@ -2,7 +2,7 @@
 
 ghost use Rattle.std.specs.Prelude.{◌≡◌, map};
 ghost use Rattle.ga_explorer.specs.Commands.{command_table};
-ghost use Rattle.ga_explorer.specs.inner.{entry_of};
+ghost use Rattle.ga_explorer.specs.inner.{command_entry_of_row};
 
 use crate::forms::{CommandClass, Row};
 
@@ -189,7 +189,7 @@ static ROWS: &[Row] = &[
 /// The commands.
 #[tactic(auto, unfolding(crate::specs::Commands::command_table))]
 pub(crate) fn command_table() -> &'static [Row]
-    ensures { map entry_of result.now ≡ command_table }
+    ensures { map command_entry_of_row result.now ≡ command_table }
 {
     ROWS
 }

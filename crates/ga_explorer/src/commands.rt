@@ -1,10 +1,10 @@
 //! The commands of exploring: of each how a line spells it, and what answers it.
 
 ghost use Rattle.std.specs.Prelude.{◌≡◌, option_and_then, IfSome};
-ghost use Rattle.ga_event.specs.Flow.{IsNodePart};
+ghost use Rattle.ga_event.specs.Flow.{IsNodePartInRange};
 ghost use Rattle.ga_explorer.specs.Reading.{part_of_node_value};
-ghost use Rattle.ga_explorer.specs.Commands.{command_of_line, single_word_command, bare_query, command_with_arguments, query_with_arguments};
-ghost use Rattle.ga_explorer.specs.inner.{explorer_state, IsTold};
+ghost use Rattle.ga_explorer.specs.Commands.{explorer_command_of_line, single_word_command, query_without_arguments, command_with_arguments, query_with_arguments};
+ghost use Rattle.ga_explorer.specs.inner.{explorer_state, IsQueryAnswerWritten};
 
 use crate::arguments::{
     parse_node_and_cell, parse_node_and_step, parse_node_and_steps, parse_node_and_value,
@@ -14,13 +14,14 @@ use crate::back_request::parse_back;
 use crate::forms::{place_of, say_command, say_help};
 use crate::named_value::part_of_node_value;
 use crate::run_request::{MOST_EVENTS, parse_run};
-use ga_conditions::{Conditions, no_conditions};
+use ga_conditions::{RunConditions, never_holding_conditions};
 use ga_console::StepSelector;
 use ga_debug_info::DebugInfo;
 use ga_event::NodePart;
 use ga_explorer_text::{
-    chip_overview, write_because, write_cell_writes, write_effects, write_link_words, write_races,
-    write_save, write_steps_around, write_whence, write_who,
+    chip_overview, write_cell_writes, write_decisions_answer, write_link_words,
+    write_provenance_answer, write_races, write_rollback_effects, write_saved_session,
+    write_steps_around, write_waiting_nodes,
 };
 use ga_grid::NodeId;
 use ga_lab::Lab;
@@ -36,13 +37,13 @@ pub enum ExplorerCommand {
     Run {
         schedule: Schedule,
         most: u32,
-        until: Conditions,
+        until: RunConditions,
     },
     /// `back until`: undoes the history up to the newest event after which a condition held; for a node, rolls back its newest
     /// such step.
     BackUntil {
         only: Option<NodeId>,
-        until: Conditions,
+        until: RunConditions,
     },
     /// A command that changes nothing.
     AnswerQuery(Query),
@@ -67,7 +68,7 @@ pub enum Query {
         address: u8,
     },
     /// `at`: writes the steps of a node up to a number before and after one, each with the registers after it.
-    At {
+    StepsAround {
         node: NodeId,
         which: StepSelector,
         most: u32,
@@ -91,7 +92,7 @@ pub enum Query {
         only: Option<NodeId>,
     },
     /// `who`: writes who waits for whom, and which nodes are deadlocked.
-    Who,
+    WaitingNodes,
     /// `chip`: shows what each node does.
     Chip,
     /// `save`: writes debugger commands that make the history again.
@@ -99,12 +100,12 @@ pub enum Query {
     /// `help`: shows the commands.
     Help,
     /// `help` of one command, by its place among them.
-    HelpOf(usize),
+    CommandHelp(usize),
 }
 
 /// The command of exploring that a line spells, or none.
-pub fn parse_command(notes: &Option<DebugInfo>, line: &[u8]) -> Option<ExplorerCommand>
-    ensures { result ≡ command_of_line notes.now line.now }
+pub fn parse_explorer_command(notes: &Option<DebugInfo>, line: &[u8]) -> Option<ExplorerCommand>
+    ensures { result ≡ explorer_command_of_line notes.now line.now }
 {
     match split_at_space(line) {
         Some((name, arguments)) => command_with_arguments(notes, name, arguments),
@@ -119,21 +120,21 @@ fn single_word_command(name: &[u8]) -> Option<ExplorerCommand>
 {
     match name {
         b"run" => Some(ExplorerCommand::Run {
-            schedule: Schedule::round_robin(),
+            schedule: Schedule::round_robin_schedule(),
             most: MOST_EVENTS,
-            until: no_conditions(),
+            until: never_holding_conditions(),
         }),
-        _ => Some(ExplorerCommand::AnswerQuery(bare_query(name)?)),
+        _ => Some(ExplorerCommand::AnswerQuery(query_without_arguments(name)?)),
     }
 }
 
 /// A command of one word that changes nothing.
-#[tactic(auto, unfolding(crate::specs::Commands::bare_query))]
-fn bare_query(name: &[u8]) -> Option<Query>
-    ensures { result ≡ bare_query name.now }
+#[tactic(auto, unfolding(crate::specs::Commands::query_without_arguments))]
+fn query_without_arguments(name: &[u8]) -> Option<Query>
+    ensures { result ≡ query_without_arguments name.now }
 {
     match name {
-        b"who" => Some(Query::Who),
+        b"who" => Some(Query::WaitingNodes),
         b"races" => Some(Query::Races { only: None }),
         b"chip" => Some(Query::Chip),
         b"save" => Some(Query::Save),
@@ -176,7 +177,7 @@ fn query_with_arguments(name: &[u8], arguments: &[u8]) -> Option<Query>
         Some(Query::Writes { node, address })
     } else if name == b"at".as_slice() {
         let (node, which, most) = parse_node_and_steps(arguments)?;
-        Some(Query::At { node, which, most })
+        Some(Query::StepsAround { node, which, most })
     } else if name == b"whence".as_slice() {
         let (node, which, value, first) = parse_node_and_value(arguments)?;
         Some(Query::Whence {
@@ -192,7 +193,7 @@ fn query_with_arguments(name: &[u8], arguments: &[u8]) -> Option<Query>
         let node = parse_node(arguments)?;
         Some(Query::Races { only: Some(node) })
     } else if name == b"help".as_slice() {
-        Some(Query::HelpOf(place_of(arguments)?))
+        Some(Query::CommandHelp(place_of(arguments)?))
     } else {
         None
     }
@@ -209,17 +210,17 @@ pub(crate) fn answer_query<W: Write>(
     asked: Query,
     writer: &mut Writer<'_, W>,
 ) -> WriteResult
-    ensures said { IsTold result (explorer_state lab.old notes.now) asked W.contents writer.old writer.new }
+    ensures said { IsQueryAnswerWritten result (explorer_state lab.old notes.now) asked W.contents writer.old writer.new }
     ensures same { lab.new ≡ lab.old }
 {
     match asked {
         Query::Effects { node, which } => {
             let step = which.resolve(lab, node);
-            write_effects(alloc, lab, notes, node, step, writer)
+            write_rollback_effects(alloc, lab, notes, node, step, writer)
         }
         Query::Words { from, to } => write_link_words(lab, from, to, writer),
         Query::Writes { node, address } => write_cell_writes(lab, node, address, writer),
-        Query::At { node, which, most } => {
+        Query::StepsAround { node, which, most } => {
             let step = which.resolve(lab, node);
             write_steps_around(lab, notes, node, step, most, writer)
         }
@@ -230,25 +231,25 @@ pub(crate) fn answer_query<W: Write>(
             first,
         } => {
             let step = which.resolve(lab, node);
-            write_whence(alloc, lab, notes, node, step, part_of(value), first, writer)
+            write_provenance_answer(alloc, lab, notes, node, step, part_of(value), first, writer)
         }
         Query::Because { node, which, most } => {
             let step = which.resolve(lab, node);
-            write_because(lab, notes, node, step, most, writer)
+            write_decisions_answer(lab, notes, node, step, most, writer)
         }
         Query::Races { only } => write_races(alloc, lab, only, writer),
-        Query::Who => write_who(lab, writer),
+        Query::WaitingNodes => write_waiting_nodes(lab, writer),
         Query::Chip => writer.write_blocks(chip_overview(lab).as_slice()),
-        Query::Save => write_save(lab, writer),
+        Query::Save => write_saved_session(lab, writer),
         Query::Help => say_help(writer),
-        Query::HelpOf(place) => say_command(place, writer),
+        Query::CommandHelp(place) => say_command(place, writer),
     }
 }
 
 /// The part of a node that is named, if one is.
 fn part_of(value: Option<NodeValue>) -> Option<NodePart>
     ensures value { result ≡ option_and_then part_of_node_value value }
-    ensures part { IfSome result IsNodePart }
+    ensures part { IfSome result IsNodePartInRange }
 {
     match value {
         Some(value) => part_of_node_value(value),

@@ -2,21 +2,22 @@
 
 ghost use Rattle.std.specs.Prelude.{◌≡◌, ◌≤◌, length, Some, None, IfSome, IfNone, IsTrue, false};
 ghost use Rattle.ga_text.specs.Output.{WritesSomeText};
-ghost use Rattle.ga_explorer.specs.Commands.{command_of_line, AnswersExplorerCommand};
+ghost use Rattle.ga_explorer.specs.Commands.{explorer_command_of_line, AnswersExplorerCommand};
 ghost use Rattle.ga_explorer.specs.inner.{explorer_state};
-ghost use Rattle.ga_explorer.specs.Answers.{AnswersLineOrQuits, AnswersOutsideExplorer, IsDebuggerLine, IsNoCommand};
-ghost use Rattle.ga_console.specs.Session.{AnswersOrQuits};
+ghost use Rattle.ga_explorer.specs.Answers.{AnswersLineOrQuits, AnswersNonExplorerLine, IsDebuggerLine, IsNoDebuggerCommand};
+ghost use Rattle.ga_console.specs.Session.{AnswersOrQuitsLine};
 
-use crate::commands::{ExplorerCommand, answer_query, parse_command};
+use crate::commands::{ExplorerCommand, answer_query, parse_explorer_command};
 use crate::forms::write_syntax_error;
 use ga_console::{
-    Command, LineAction, Responder, answer_in_wording, execute_in_wording, parse_debugger_command,
+    DebuggerCommand, LineAction, Responder, answer_line_in_wording, execute_command_in_wording,
+    parse_debugger_command,
 };
 use ga_debug_info::DebugInfo;
 use ga_display::RefusalWording;
-use ga_image::LINE_LIMIT;
+use ga_image::MAX_IMAGE_LINE_BYTES;
 use ga_lab::Lab;
-use ga_scheduler::{active_conditions, run_schedule};
+use ga_scheduler::{conditions_before_never, run_schedule};
 use ga_text::{WriteError, WriteResult, Writer};
 use std::alloc::Global;
 use std::io::Write;
@@ -96,17 +97,17 @@ impl Responder for Explorer {
         line: &[u8],
         writer: &mut Writer<'_, W>,
     ) -> Result<LineAction, WriteError> {
-        answer_line(alloc, &mut self.lab, &self.notes, line, writer)
+        answer_explorer_line(alloc, &mut self.lab, &self.notes, line, writer)
     }
 
     #[inline(always)]
-    fn obey<W: Write>(
+    fn obey_debugger_command<W: Write>(
         &mut self,
         alloc: Global,
-        command: Command,
+        command: DebuggerCommand,
         writer: &mut Writer<'_, W>,
     ) -> Result<LineAction, WriteError> {
-        execute_in_wording(
+        execute_command_in_wording(
             alloc,
             &mut self.lab,
             command,
@@ -121,7 +122,7 @@ impl Responder for Explorer {
 ///
 /// # Errors
 /// A write failed.
-pub fn answer_line<W: Write>(
+pub fn answer_explorer_line<W: Write>(
     alloc: Global,
     lab: &mut Lab,
     notes: &Option<DebugInfo>,
@@ -160,12 +161,17 @@ fn explored<W: Write>(
             most,
             until,
         } => {
-            let watched = active_conditions(&until);
+            let watched = conditions_before_never(&until);
             let ran = run_schedule(lab, schedule, u64::from(most), watched);
             writer.write_blocks(ga_explorer_text::run_result_text(&ran, watched.len()).as_slice())
         }
         ExplorerCommand::BackUntil { only, until } => {
-            ga_explorer_text::write_back_until(lab, active_conditions(&until), only, writer)
+            ga_explorer_text::answer_back_until_command(
+                lab,
+                conditions_before_never(&until),
+                only,
+                writer,
+            )
         }
         ExplorerCommand::AnswerQuery(question) => answer_query(alloc, lab, notes, question, writer),
     }
@@ -173,11 +179,11 @@ fn explored<W: Write>(
 
 /// The command of exploring that a line spells, where it is not too long.
 fn asked_by(notes: &Option<DebugInfo>, line: &[u8]) -> Option<ExplorerCommand>
-    ensures some { IfSome result (λ asked. (length line.now ≤ LINE_LIMIT) × (command_of_line notes.now line.now ≡ Some asked)) }
-    ensures none { IfNone result (length line.now ≤ LINE_LIMIT → command_of_line notes.now line.now ≡ None) }
+    ensures some { IfSome result (λ asked. (length line.now ≤ MAX_IMAGE_LINE_BYTES) × (explorer_command_of_line notes.now line.now ≡ Some asked)) }
+    ensures none { IfNone result (length line.now ≤ MAX_IMAGE_LINE_BYTES → explorer_command_of_line notes.now line.now ≡ None) }
 {
-    if line.len() <= LINE_LIMIT {
-        parse_command(notes, line)
+    if line.len() <= MAX_IMAGE_LINE_BYTES {
+        parse_explorer_command(notes, line)
     } else {
         None
     }
@@ -193,20 +199,20 @@ fn answer_other<W: Write>(
     line: &[u8],
     writer: &mut Writer<'_, W>,
 ) -> Result<LineAction, WriteError>
-    ensures { WritesSomeText result (AnswersOrQuits AnswersOutsideExplorer lab.old line.now lab.new result)
+    ensures { WritesSomeText result (AnswersOrQuitsLine AnswersNonExplorerLine lab.old line.now lab.new result)
         W.contents writer.old writer.new }
 {
     if is_no_command(line) {
         write_syntax_error(line, writer)?;
         return Ok(LineAction::Answered);
     }
-    answer_in_wording(alloc, lab, line, RefusalWording::Advised, writer)
+    answer_line_in_wording(alloc, lab, line, RefusalWording::Advised, writer)
 }
 
 /// Whether a line is not too long and spells no command of the debugger.
 fn is_no_command(line: &[u8]) -> bool
-    ensures none { IsTrue result → IsNoCommand line.now }
+    ensures none { IsTrue result → IsNoDebuggerCommand line.now }
     ensures some { result ≡ false → IsDebuggerLine line.now }
 {
-    line.len() <= LINE_LIMIT && parse_debugger_command(line).is_none()
+    line.len() <= MAX_IMAGE_LINE_BYTES && parse_debugger_command(line).is_none()
 }

@@ -2,11 +2,11 @@
 
 ghost use Rattle.std.specs.Prelude.{◌≡◌, ◌++◌, codes, map, option_map, option_copied, slice_get};
 ghost use Rattle.ga_text.specs.Output.{WritesSomeText, WritesExactly};
-ghost use Rattle.ga_explorer.specs.Forms.{form_row_text, form_rows_text, command_details_text, command_place_from};
-ghost use Rattle.ga_explorer.specs.Commands.{command_table, command_help_text, command_place};
-ghost use Rattle.ga_explorer.specs.NoCommand.{form_of_command, form_of_similar_command, suggested_form, command_word, begins_with_byte_order_mark, ends_with_carriage_return, has_leading_or_trailing_blank, is_upper, command_suggestion, unknown_command_text};
+ghost use Rattle.ga_explorer.specs.Forms.{command_row_text, command_rows_text, command_details_text, command_index_from_place};
+ghost use Rattle.ga_explorer.specs.Commands.{command_table, command_help_text, command_index_of_name};
+ghost use Rattle.ga_explorer.specs.NoCommand.{command_usage_of_name, usage_of_similar_command, suggested_command_usage, command_word, begins_with_byte_order_mark, ends_with_carriage_return, has_leading_or_trailing_blank, has_upper_case_letter, command_suggestion, unknown_command_text};
 ghost use Rattle.ga_explorer.specs.Classes.{command_class_of_line};
-ghost use Rattle.ga_explorer.specs.inner.{entry_of};
+ghost use Rattle.ga_explorer.specs.inner.{command_entry_of_row};
 ghost use Rattle.ga_text.specs.Parsing.{split_at_space};
 
 use crate::command_table::command_table;
@@ -45,14 +45,14 @@ pub(crate) struct Row {
 /// # Errors
 /// A write failed.
 pub(crate) fn say_help<W: Write>(writer: &mut Writer<'_, W>) -> WriteResult
-    ensures { WritesSomeText result (λ text. text ≡ form_rows_text command_table)
+    ensures { WritesSomeText result (λ text. text ≡ command_rows_text command_table)
         W.contents writer.old writer.new }
 {
     say_rows(command_table(), writer)
 }
 
 fn say_rows<W: Write>(rows: &[Row], writer: &mut Writer<'_, W>) -> WriteResult
-    ensures { WritesSomeText result (λ text. text ≡ form_rows_text (map entry_of rows.now))
+    ensures { WritesSomeText result (λ text. text ≡ command_rows_text (map command_entry_of_row rows.now))
         W.contents writer.old writer.new }
 {
     'rows: for row in rows {
@@ -62,7 +62,7 @@ fn say_rows<W: Write>(rows: &[Row], writer: &mut Writer<'_, W>) -> WriteResult
 }
 
 fn write_help_row<W: Write>(row: &Row, writer: &mut Writer<'_, W>) -> WriteResult
-    ensures { WritesExactly result (form_row_text (entry_of row.now)) W.contents writer.old writer.new }
+    ensures { WritesExactly result (command_row_text (command_entry_of_row row.now)) W.contents writer.old writer.new }
 {
     writer.write_blocks(row.form)?;
     writer.write_blocks(row.does)
@@ -95,7 +95,7 @@ pub(crate) fn say_command<W: Write>(place: usize, writer: &mut Writer<'_, W>) ->
 }
 
 fn say_about<W: Write>(row: &Row, writer: &mut Writer<'_, W>) -> WriteResult
-    ensures { WritesExactly result (command_details_text (entry_of row.now)) W.contents writer.old writer.new }
+    ensures { WritesExactly result (command_details_text (command_entry_of_row row.now)) W.contents writer.old writer.new }
 {
     write_help_row(row, writer)?;
     writer.write_blocks(row.more)
@@ -103,7 +103,7 @@ fn say_about<W: Write>(row: &Row, writer: &mut Writer<'_, W>) -> WriteResult
 
 /// The place among some commands of the one with this name.
 fn place_among(rows: &'static [Row], word: &[u8]) -> Option<usize>
-    ensures { result ≡ command_place_from word.now 0 (map entry_of rows.now) }
+    ensures { result ≡ command_index_from_place word.now 0 (map command_entry_of_row rows.now) }
 {
     let mut place = 0;
     'rows: for row in rows {
@@ -117,7 +117,7 @@ fn place_among(rows: &'static [Row], word: &[u8]) -> Option<usize>
 
 /// The place of the command of this name.
 pub(crate) fn place_of(word: &[u8]) -> Option<usize>
-    ensures { result ≡ command_place word.now }
+    ensures { result ≡ command_index_of_name word.now }
 {
     place_among(command_table(), word)
 }
@@ -190,10 +190,10 @@ pub fn command_suggestion(line: &[u8]) -> &'static [u8]
         b"a carriage return ends the line; end it with a line feed alone"
     } else if is_blank(line) {
         b"a blank stands at an end of the line; leave it out"
-    } else if is_upper(word) {
+    } else if has_upper_case_letter(word) {
         b"the command is in upper case; write it in lower case"
     } else {
-        suggested_form(word)
+        suggested_command_usage(word)
     }
 }
 
@@ -222,9 +222,9 @@ fn is_blank(line: &[u8]) -> bool
 }
 
 /// Whether a letter of a word is in upper case.
-#[tactic(auto, using(crate::proofs::Finding::upper_at, std::proofs::lemmas::List::drop_all), unfolding(crate::specs::NoCommand::is_upper))]
-fn is_upper(word: &[u8]) -> bool
-    ensures { result ≡ is_upper word.now }
+#[tactic(auto, using(crate::proofs::Finding::upper_at, std::proofs::lemmas::List::drop_all), unfolding(crate::specs::NoCommand::has_upper_case_letter))]
+fn has_upper_case_letter(word: &[u8]) -> bool
+    ensures { result ≡ has_upper_case_letter word.now }
 {
     'letters: for letter in word {
         if letter.is_ascii_uppercase() {
@@ -235,12 +235,12 @@ fn is_upper(word: &[u8]) -> bool
 }
 
 /// The form of the command of this name; else of the first whose name is the word but for one letter; else of `help`.
-fn suggested_form(word: &[u8]) -> &'static [u8]
-    ensures { result.now ≡ suggested_form word.now }
+fn suggested_command_usage(word: &[u8]) -> &'static [u8]
+    ensures { result.now ≡ suggested_command_usage word.now }
 {
     match form_in(command_table(), word) {
         Some(form) => form,
-        None => match form_of_similar_command(command_table(), word) {
+        None => match usage_of_similar_command(command_table(), word) {
             Some(form) => form,
             None => b"help",
         },
@@ -248,9 +248,9 @@ fn suggested_form(word: &[u8]) -> &'static [u8]
 }
 
 /// The form of the command of this name.
-#[tactic(auto, using(crate::proofs::Finding::named_here, crate::proofs::Finding::named_behind, std::proofs::lemmas::List::drop_all), unfolding(crate::specs::NoCommand::form_of_command))]
+#[tactic(auto, using(crate::proofs::Finding::named_here, crate::proofs::Finding::named_behind, std::proofs::lemmas::List::drop_all), unfolding(crate::specs::NoCommand::command_usage_of_name))]
 fn form_in(rows: &'static [Row], word: &[u8]) -> Option<&'static [u8]>
-    ensures { option_map (λ form. form.now) result ≡ form_of_command word.now (map entry_of rows.now) }
+    ensures { option_map (λ form. form.now) result ≡ command_usage_of_name word.now (map command_entry_of_row rows.now) }
 {
     'rows: for row in rows {
         if row.name == word {
@@ -261,9 +261,9 @@ fn form_in(rows: &'static [Row], word: &[u8]) -> Option<&'static [u8]>
 }
 
 /// The form of the first command whose name is this word but for one letter.
-#[tactic(auto, using(crate::proofs::Finding::near_here, crate::proofs::Finding::near_behind, std::proofs::lemmas::List::drop_all), unfolding(crate::specs::NoCommand::form_of_similar_command))]
-fn form_of_similar_command(rows: &'static [Row], word: &[u8]) -> Option<&'static [u8]>
-    ensures { option_map (λ form. form.now) result ≡ form_of_similar_command word.now (map entry_of rows.now) }
+#[tactic(auto, using(crate::proofs::Finding::near_here, crate::proofs::Finding::near_behind, std::proofs::lemmas::List::drop_all), unfolding(crate::specs::NoCommand::usage_of_similar_command))]
+fn usage_of_similar_command(rows: &'static [Row], word: &[u8]) -> Option<&'static [u8]>
+    ensures { option_map (λ form. form.now) result ≡ usage_of_similar_command word.now (map command_entry_of_row rows.now) }
 {
     'rows: for row in rows {
         if is_within_one_edit(word, row.name) {

@@ -19,11 +19,11 @@ mod session;
 mod strict;
 
 pub use beginning::open_lab;
-pub use commands::{ExplorerCommand, Query, parse_command};
-pub use explorer::{Explorer, answer_line};
+pub use commands::{ExplorerCommand, Query, parse_explorer_command};
+pub use explorer::{Explorer, answer_explorer_line};
 pub use forms::{CommandClass, QueryUsage, command_class_of_line, command_suggestion};
 pub use named_value::part_of_node_value;
-pub use preload::{complete_end_line, lacks_end_line};
+pub use preload::{complete_end_line, is_image_lacking_end_line};
 pub use query_answer::write_query_answer;
-pub use session::explore;
-pub use strict::{end_session, is_refusal};
+pub use session::serve_explorer_session;
+pub use strict::{is_refusal_answer, report_session_end_status};

@@ -1,7 +1,7 @@
 //! The part of a node that a command names.
 
 ghost use Rattle.std.specs.Prelude.{◌≡◌, IfSome};
-ghost use Rattle.ga_event.specs.Flow.{IsNodePart};
+ghost use Rattle.ga_event.specs.Flow.{IsNodePartInRange};
 ghost use Rattle.ga_explorer.specs.Reading.{part_of_node_value, parse_part_value};
 
 use ga_conditions::parse_node_value;
@@ -13,7 +13,7 @@ pub(crate) fn parse_part_value(word: &[u8]) -> Option<NodeValue>
     ensures { result ≡ parse_part_value word.now }
 {
     match parse_node_value(word) {
-        Some(NodeValue::Step) => None,
+        Some(NodeValue::StepCountValue) => None,
         other => other,
     }
 }
@@ -21,10 +21,10 @@ pub(crate) fn parse_part_value(word: &[u8]) -> Option<NodeValue>
 /// The part of a node that has this value; none for the number of its steps.
 pub fn part_of_node_value(value: NodeValue) -> Option<NodePart>
     ensures value { result ≡ part_of_node_value value }
-    ensures part { IfSome result IsNodePart }
+    ensures part { IfSome result IsNodePartInRange }
 {
     let part = match value {
-        NodeValue::Step => return None,
+        NodeValue::StepCountValue => return None,
         NodeValue::P => NodePart::P,
         NodeValue::A => NodePart::A,
         NodeValue::B => NodePart::B,

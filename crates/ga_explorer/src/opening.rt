@@ -1,20 +1,20 @@
 //! What a session of exploring begins on: an image, or source, which may have a chip of its own.
 ghost use Rattle.std.specs.Prelude.{◌≡◌, IfOk, IfErr, IfSome, Some, None};
-ghost use Rattle.ga_explorer.specs.Opening.{begins_as_image, image_text_of, is_read_as_image, OpensTextBeforeCommands, OpensExplorer, OpensSourceOnImage, OpensSource, IsDebugInfoOf};
-ghost use Rattle.ga_explorer.specs.inner.{IsUnopened};
+ghost use Rattle.ga_explorer.specs.Opening.{begins_as_image, optional_image_text, is_read_as_image, OpensTextBeforeCommands, OpensExplorer, OpensSourceOnImage, OpensSource, IsDebugInfoOf};
+ghost use Rattle.ga_explorer.specs.inner.{IsLabOpenError};
 ghost use Rattle.ga_console.specs.Run.{IsOpenedOnImage as OpensImage, IsFaultOfImage};
-ghost use Rattle.ga_image.specs.Given.{ranges_of_given_words, image_ranges};
-ghost use Rattle.ga_text.specs.Lines.{lines_of};
+ghost use Rattle.ga_image.specs.Given.{ranges_of_given_words, given_ranges_of_image};
+ghost use Rattle.ga_text.specs.Lines.{lines_of_text};
 
 use crate::explorer::Explorer;
-use ga_console::open_image;
+use ga_console::open_lab_from_image;
 use ga_debug_info::{
-    DebugInfo, debug_info_of, find_image_artifact, find_source_artifact, report_code_stores,
-    report_editor_artifact, report_faults, report_out_of_memory,
+    DebugInfo, debug_info_of_source, find_stray_character_in_image, find_stray_character_in_source,
+    report_faults, report_out_of_memory, report_stores_over_code, report_stray_character,
 };
-use ga_image::{GivenWords, ImageCause, ImageFault, given_words};
+use ga_image::{GivenWords, ImageFault, ImageFaultCause, given_words};
 use ga_lab::Lab;
-use ga_source::assemble;
+use ga_source::assemble_source_text;
 use ga_state_expectations::{check_source_expectations, report_expectations_error};
 use ga_text::write_all;
 use std::alloc::Global;
@@ -23,7 +23,7 @@ use std::io::Write;
 /// The fault of an image for which memory was wanting.
 pub(crate) const NO_MEMORY: ImageFault = ImageFault {
     line: 0,
-    cause: ImageCause::Memory,
+    cause: ImageFaultCause::Memory,
 };
 
 /// Why a session doesn't begin.
@@ -44,7 +44,7 @@ pub(crate) fn is_image(text: &[u8]) -> bool
 
 /// Whether a text is read as an image: never where another image is given for the chip.
 pub(crate) fn is_read_as_image(chip: &Option<Vec<u8>>, text: &[u8]) -> bool
-    ensures { result ≡ is_read_as_image (image_text_of chip.now) text.now }
+    ensures { result ≡ is_read_as_image (optional_image_text chip.now) text.now }
 {
     match chip {
         Some(_) => false,
@@ -64,8 +64,8 @@ pub(crate) fn open_text<E: Write>(
     chip: Option<Vec<u8>>,
     limit: u32,
 ) -> Result<Explorer, OpenError>
-    ensures ok { IfOk result (λ begun. OpensTextBeforeCommands (image_text_of chip) text.items limit begun) }
-    ensures err { IfErr result (λ why. IsUnopened (image_text_of chip) text.items why) }
+    ensures ok { IfOk result (λ begun. OpensTextBeforeCommands (optional_image_text chip) text.items limit begun) }
+    ensures err { IfErr result (λ why. IsLabOpenError (optional_image_text chip) text.items why) }
 {
     match chip {
         Some(image) => open_on_image(alloc, errors, text.as_slice(), image, limit),
@@ -85,18 +85,18 @@ fn open_on_image<E: Write>(
     limit: u32,
 ) -> Result<Explorer, OpenError>
     ensures ok { IfOk result (λ begun. OpensSourceOnImage source.now image.items limit begun) }
-    ensures err { IfErr result (λ why. IsUnopened (Some image.items) source.now why) }
+    ensures err { IfErr result (λ why. IsLabOpenError (Some image.items) source.now why) }
 {
     let notes = note_source(alloc, errors, source);
-    let _written = report_editor_artifact(errors, find_source_artifact(source));
+    let _written = report_stray_character(errors, find_stray_character_in_source(source));
     let Some(notes) = notes else {
         return Err(OpenError::Source);
     };
-    let edited = find_image_artifact(image.as_slice());
+    let edited = find_stray_character_in_image(image.as_slice());
     match open_with_words(alloc, image, limit) {
         Ok((lab, given)) => Ok(Explorer::of(lab, Some(with_words(notes, given)))),
         Err(fault) => {
-            let _written = report_editor_artifact(errors, edited);
+            let _written = report_stray_character(errors, edited);
             tell_chip(errors);
             Err(OpenError::Image(fault))
         }
@@ -133,13 +133,13 @@ fn open_with_words(
     limit: u32,
 ) -> Result<(Lab, GivenWords), ImageFault>
     ensures ok { IfOk result (λ opened. OpensImage image.items limit opened.0) }
-    ensures given { IfOk result (λ opened. ranges_of_given_words opened.1 ≡ image_ranges (lines_of image.items)) }
+    ensures given { IfOk result (λ opened. ranges_of_given_words opened.1 ≡ given_ranges_of_image (lines_of_text image.items)) }
     ensures err { IfErr result (λ fault. IsFaultOfImage image.items fault) }
 {
     let Ok(given) = given_words(alloc, image.as_slice()) else {
         return Err(NO_MEMORY);
     };
-    match open_image(alloc, image, limit) {
+    match open_lab_from_image(alloc, image, limit) {
         Ok(lab) => Ok((lab, given)),
         Err(fault) => Err(fault),
     }
@@ -160,10 +160,14 @@ fn note_source<E: Write>(alloc: Global, errors: &mut E, source: &[u8]) -> Option
         let _written = report_expectations_error(alloc, errors, &why);
         return None;
     }
-    match assemble(alloc, source) {
+    match assemble_source_text(alloc, source) {
         Ok(assembled) => {
-            if report_code_stores(alloc, errors, &assembled).is_ok() {
-                if let Ok(notes) = debug_info_of(alloc, source, assembled.programs.as_slice()) {
+            if report_stores_over_code(alloc, errors, &assembled).is_ok() {
+                if let Ok(notes) = debug_info_of_source(
+                    alloc,
+                    source,
+                    assembled.programs.as_slice(),
+                ) {
                     return Some(notes);
                 }
             }
@@ -188,20 +192,20 @@ fn open_alone<E: Write>(
     limit: u32,
 ) -> Result<Explorer, OpenError>
     ensures ok { IfOk result (λ begun. OpensExplorer text.items limit begun) }
-    ensures err { IfErr result (λ why. IsUnopened None text.items why) }
+    ensures err { IfErr result (λ why. IsLabOpenError None text.items why) }
 {
     if is_image(text.as_slice()) {
-        let edited = find_image_artifact(text.as_slice());
+        let edited = find_stray_character_in_image(text.as_slice());
         return match open_with_words(alloc, text, limit) {
-            Ok((lab, given)) => Ok(Explorer::of(lab, Some(DebugInfo::of_image(alloc, given)))),
+            Ok((lab, given)) => Ok(Explorer::of(lab, Some(DebugInfo::for_image(alloc, given)))),
             Err(fault) => {
-                let _written = report_editor_artifact(errors, edited);
+                let _written = report_stray_character(errors, edited);
                 Err(OpenError::Image(fault))
             }
         };
     }
     let opened = open_source(alloc, errors, text.as_slice(), limit);
-    let _written = report_editor_artifact(errors, find_source_artifact(text.as_slice()));
+    let _written = report_stray_character(errors, find_stray_character_in_source(text.as_slice()));
     match opened {
         Some(begun) => Ok(begun),
         None => Err(OpenError::Source),
@@ -221,10 +225,14 @@ fn open_source<E: Write>(
         let _written = report_expectations_error(alloc, errors, &why);
         return None;
     }
-    match assemble(alloc, source) {
+    match assemble_source_text(alloc, source) {
         Ok(assembled) => {
-            if report_code_stores(alloc, errors, &assembled).is_ok() {
-                if let Ok(notes) = debug_info_of(alloc, source, assembled.programs.as_slice()) {
+            if report_stores_over_code(alloc, errors, &assembled).is_ok() {
+                if let Ok(notes) = debug_info_of_source(
+                    alloc,
+                    source,
+                    assembled.programs.as_slice(),
+                ) {
                     if let Ok(lab) = Lab::new(alloc, assembled.chip, limit) {
                         return Some(Explorer::of(lab, Some(notes)));
                     }

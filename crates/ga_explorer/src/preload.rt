@@ -1,14 +1,14 @@
 //! An image or source in a file that is read before standard input.
 
 ghost use Rattle.std.specs.Prelude.{◌≡◌, OnOk};
-ghost use Rattle.ga_explorer.specs.Front.{contains_end_line, has_end_line, ends_with_bare_end_line, lacks_end_line, missing_end_text, text_with_end_line};
+ghost use Rattle.ga_explorer.specs.Front.{contains_end_line, has_end_line, ends_with_bare_end_line, is_image_lacking_end_line, end_line_completion, text_with_end_line};
 
 use crate::opening::is_image;
 use std::alloc::AllocError;
 
 /// Whether a text is an image without a line `end`, so that no command can follow it.
-pub fn lacks_end_line(text: &[u8]) -> bool
-    ensures { result ≡ lacks_end_line text.now }
+pub fn is_image_lacking_end_line(text: &[u8]) -> bool
+    ensures { result ≡ is_image_lacking_end_line text.now }
 {
     is_image(text) && !contains_end_line(text) && !ends_with_bare_end_line(text)
 }
@@ -21,12 +21,12 @@ pub fn lacks_end_line(text: &[u8]) -> bool
 pub fn complete_end_line(text: &mut Vec<u8>) -> Result<(), AllocError>
     ensures ok { OnOk result (text.new.items ≡ text_with_end_line text.old.items) }
 {
-    text.extend_from_slice(missing_end_text(text.as_slice()))
+    text.extend_from_slice(end_line_completion(text.as_slice()))
 }
 
 /// What a text needs so that commands can follow it.
-fn missing_end_text(text: &[u8]) -> &'static [u8]
-    ensures { result.now ≡ missing_end_text text.now }
+fn end_line_completion(text: &[u8]) -> &'static [u8]
+    ensures { result.now ≡ end_line_completion text.now }
 {
     if contains_end_line(text) {
         b""

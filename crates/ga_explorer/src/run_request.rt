@@ -1,10 +1,10 @@
 //! The arguments of `run`: an order, how many events, and conditions.
 
 ghost use Rattle.std.specs.Prelude.{◌≡◌};
-ghost use Rattle.ga_explorer.specs.Reading.{parse_run_arguments, parse_single_order, parse_named_order, parse_seeded_run, parse_run_bounds, run_bounds_of_words, run_until};
+ghost use Rattle.ga_explorer.specs.Reading.{parse_run_arguments, parse_single_order, parse_named_order, parse_seeded_run, parse_run_bounds, run_command_with_bounds, run_until_command};
 
 use crate::commands::ExplorerCommand;
-use ga_conditions::{no_conditions, parse_conditions, parse_until};
+use ga_conditions::{never_holding_conditions, parse_conditions, parse_until_conditions};
 use ga_debug_info::DebugInfo;
 use ga_scheduler::Schedule;
 use ga_text::{parse_number, split_at_space};
@@ -29,12 +29,12 @@ fn parse_single_order(notes: &Option<DebugInfo>, text: &[u8]) -> Option<Explorer
 {
     if text == b"greedy".as_slice() {
         Some(ExplorerCommand::Run {
-            schedule: Schedule::greedy(),
+            schedule: Schedule::greedy_schedule(),
             most: MOST_EVENTS,
-            until: no_conditions(),
+            until: never_holding_conditions(),
         })
     } else {
-        bounded_of(notes, Schedule::round_robin(), text)
+        bounded_of(notes, Schedule::round_robin_schedule(), text)
     }
 }
 
@@ -49,11 +49,11 @@ fn parse_named_order(
     ensures { result ≡ parse_named_order notes.now name.now rest.now text.now }
 {
     if name == b"greedy".as_slice() {
-        bounded_of(notes, Schedule::greedy(), rest)
+        bounded_of(notes, Schedule::greedy_schedule(), rest)
     } else if name == b"random".as_slice() {
         seeded_of(notes, rest)
     } else {
-        bounded_of(notes, Schedule::round_robin(), text)
+        bounded_of(notes, Schedule::round_robin_schedule(), text)
     }
 }
 
@@ -64,14 +64,14 @@ fn seeded_of(notes: &Option<DebugInfo>, text: &[u8]) -> Option<ExplorerCommand>
     match split_at_space(text) {
         Some((seed, rest)) => {
             let seed = parse_number(seed)?;
-            bounded_of(notes, Schedule::random(u64::from(seed)), rest)
+            bounded_of(notes, Schedule::random_schedule(u64::from(seed)), rest)
         }
         None => {
             let seed = parse_number(text)?;
             Some(ExplorerCommand::Run {
-                schedule: Schedule::random(u64::from(seed)),
+                schedule: Schedule::random_schedule(u64::from(seed)),
                 most: MOST_EVENTS,
-                until: no_conditions(),
+                until: never_holding_conditions(),
             })
         }
     }
@@ -82,30 +82,30 @@ fn bounded_of(notes: &Option<DebugInfo>, schedule: Schedule, text: &[u8]) -> Opt
     ensures { result ≡ parse_run_bounds notes.now schedule text.now }
 {
     match split_at_space(text) {
-        Some((name, rest)) => run_bounds_of_words(notes, schedule, name, rest),
+        Some((name, rest)) => run_command_with_bounds(notes, schedule, name, rest),
         None => Some(ExplorerCommand::Run {
             schedule,
             most: parse_number(text)?,
-            until: no_conditions(),
+            until: never_holding_conditions(),
         }),
     }
 }
 
 /// A number, `until` and conditions, or both, by the first word and what follows it.
-#[tactic(auto, unfolding(crate::specs::Reading::run_bounds_of_words))]
-fn run_bounds_of_words(
+#[tactic(auto, unfolding(crate::specs::Reading::run_command_with_bounds))]
+fn run_command_with_bounds(
     notes: &Option<DebugInfo>,
     schedule: Schedule,
     name: &[u8],
     rest: &[u8],
 ) -> Option<ExplorerCommand>
-    ensures { result ≡ run_bounds_of_words notes.now schedule name.now rest.now }
+    ensures { result ≡ run_command_with_bounds notes.now schedule name.now rest.now }
 {
     match name {
-        b"until" => run_until(notes, schedule, MOST_EVENTS, rest),
+        b"until" => run_until_command(notes, schedule, MOST_EVENTS, rest),
         _ => {
             let most = parse_number(name)?;
-            let until = parse_until(notes, rest)?;
+            let until = parse_until_conditions(notes, rest)?;
             Some(ExplorerCommand::Run {
                 schedule,
                 most,
@@ -115,13 +115,13 @@ fn run_bounds_of_words(
     }
 }
 
-fn run_until(
+fn run_until_command(
     notes: &Option<DebugInfo>,
     schedule: Schedule,
     most: u32,
     text: &[u8],
 ) -> Option<ExplorerCommand>
-    ensures { result ≡ run_until notes.now schedule most text.now }
+    ensures { result ≡ run_until_command notes.now schedule most text.now }
 {
     Some(ExplorerCommand::Run {
         schedule,

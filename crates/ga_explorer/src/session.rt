@@ -1,13 +1,13 @@
 //! A whole session of exploring.
 ghost use Rattle.ga_text.specs.Output.{ReadsAndWrites};
-ghost use Rattle.ga_explorer.specs.Opening.{image_text_of};
+ghost use Rattle.ga_explorer.specs.Opening.{optional_image_text};
 ghost use Rattle.ga_explorer.specs.Session.{RunsExplorer};
 
 use crate::beginning::open_lab;
 use crate::prompting::{PromptedExplorer, serve_explorer};
-use crate::strict::{StrictExplorer, end_session};
+use crate::strict::{StrictExplorer, report_session_end_status};
 use ga_console::Status;
-use ga_text::{Input, Writer};
+use ga_text::{InputBuffer, Writer};
 use std::alloc::Global;
 use std::io::{Read, Write};
 
@@ -16,7 +16,7 @@ use std::io::{Read, Write};
 /// fault, as from `ga144 asm`, and there is no answer. If an image is given for the `chip`, what is read first is its source. If
 /// `is_prompted`, as at a terminal, a prompt is written before each command is read. If `is_strict`, the session ends at the first
 /// refused command, which is written to `errors` with the number of its line, counted from 1 after the image or source.
-pub fn explore<R: Read, W: Write, E: Write>(
+pub fn serve_explorer_session<R: Read, W: Write, E: Write>(
     alloc: Global,
     reader: &mut R,
     writer: &mut W,
@@ -27,19 +27,19 @@ pub fn explore<R: Read, W: Write, E: Write>(
     is_strict: bool,
 ) -> Status
     // Where the streams tell their bytes: what was read, and what was written for it by the status.
-    ensures { ReadsAndWrites (λ read rest text. RunsExplorer is_prompted is_strict (image_text_of chip) limit read rest text result)
+    ensures { ReadsAndWrites (λ read rest text. RunsExplorer is_prompted is_strict (optional_image_text chip) limit read rest text result)
         (R.remaining reader.old) (R.remaining reader.new) (W.contents writer.old) (W.contents writer.new) }
 {
-    let mut input = Input::new();
+    let mut input = InputBuffer::new();
     match open_lab(alloc, &mut input, reader, writer, errors, chip, limit) {
         Ok(begun) => {
-            let mut said = Writer::ready(writer);
+            let mut said = Writer::writer_with_ready_line(writer);
             let mut session = PromptedExplorer {
                 explorer: StrictExplorer::new(begun, is_strict),
                 is_prompted,
             };
             let ending = serve_explorer(alloc, &mut input, reader, &mut said, &mut session);
-            end_session(errors, ending, is_strict, &session.explorer.refusal)
+            report_session_end_status(errors, ending, is_strict, &session.explorer.refusal)
         }
         Err(status) => status,
     }

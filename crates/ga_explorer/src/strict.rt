@@ -2,13 +2,15 @@
 
 ghost use Rattle.std.specs.Prelude.{◌≡◌, ◌≢◌, ◌≤◌, [], Some, IfOk, take, length, true};
 ghost use Rattle.ga_text.specs.Lines.{Bytes};
-ghost use Rattle.ga_text.specs.Output.{IsTextWritten, IsTextWrittenOrTruncated, WritesExactly, WritesSomeText};
-ghost use Rattle.ga_console.specs.inner.Run.{AnswersOrEnds, ObeysCommand};
-ghost use Rattle.ga_explorer.specs.Session.{is_refusal, AnswersAndContinues, AnswersAndEndsSession, session_status};
-ghost use Rattle.ga_explorer.specs.inner.{turn_after, IsNoted, refused_line_text};
+ghost use Rattle.ga_text.specs.Output.{IsTextWrittenOrPending, IsTextWrittenOrTruncated, WritesExactly, WritesSomeText};
+ghost use Rattle.ga_console.specs.inner.Run.{AnswersLineOrEnds, AnswersCommandOrEnds};
+ghost use Rattle.ga_explorer.specs.Session.{is_refusal_answer, AnswersLineAndContinues, AnswersAndEndsSession, session_status};
+ghost use Rattle.ga_explorer.specs.inner.{strict_action_after_answer, IsRefusalNoted, refused_line_text};
 
 use crate::explorer::Explorer;
-use ga_console::{Command, CommandsEnd, LineAction, Responder, Status, status_of_commands_end};
+use ga_console::{
+    CommandsEnd, DebuggerCommand, LineAction, Responder, Status, status_of_commands_end,
+};
 use ga_lab::Lab;
 use ga_text::{
     LineBuffer, TextBuffer, WriteError, WriteResult, Writer, push_number, push_text, write_all,
@@ -46,11 +48,11 @@ impl StrictExplorer {
 
 impl Responder for StrictExplorer {
     ghost use Rattle.std.specs.Prelude.{false, None, []};
-    ghost use Rattle.ga_explorer.specs.inner.{explorer_state, GoesOnFor, EndsFor};
+    ghost use Rattle.ga_explorer.specs.inner.{explorer_state, StrictSessionGoesOn, StrictSessionEnds};
 
-    ghost answers = { λ p line answer new. GoesOnFor p.is_strict p.explorer line answer new.is_strict new.explorer };
+    ghost answers = { λ p line answer new. StrictSessionGoesOn p.is_strict p.explorer line answer new.is_strict new.explorer };
 
-    ghost refuses = { λ p line answer new. EndsFor p.is_strict p.explorer line answer new.is_strict new.explorer };
+    ghost refuses = { λ p line answer new. StrictSessionEnds p.is_strict p.explorer line answer new.is_strict new.explorer };
 
     ghost begin = { λ s. record { explorer = explorer_state s None; is_strict = false; refusal = record { items = [] } } };
 
@@ -75,10 +77,10 @@ impl Responder for StrictExplorer {
     }
 
     #[inline(always)]
-    fn obey<W: Write>(
+    fn obey_debugger_command<W: Write>(
         &mut self,
         alloc: Global,
-        command: Command,
+        command: DebuggerCommand,
         writer: &mut Writer<'_, W>,
     ) -> Result<LineAction, WriteError> {
         if self.is_strict {
@@ -90,7 +92,7 @@ impl Responder for StrictExplorer {
                 writer,
             );
         }
-        self.explorer.obey(alloc, command, writer)
+        self.explorer.obey_debugger_command(alloc, command, writer)
     }
 }
 
@@ -105,7 +107,7 @@ fn answer_strictly<W: Write>(
     line: &[u8],
     writer: &mut Writer<'_, W>,
 ) -> Result<LineAction, WriteError>
-    ensures answered { WritesSomeText result (AnswersOrEnds (AnswersAndContinues true) (AnswersAndEndsSession true) explorer.old line.now explorer.new result) W.contents writer.old writer.new }
+    ensures answered { WritesSomeText result (AnswersLineOrEnds (AnswersLineAndContinues true) (AnswersAndEndsSession true) explorer.old line.now explorer.new result) W.contents writer.old writer.new }
     ensures quit { result ≡ Ok LineAction.Quit → refusal.new ≡ refusal.old }
 {
     let mut long = Vec::new(alloc);
@@ -125,14 +127,14 @@ fn obey_strictly<W: Write>(
     alloc: Global,
     explorer: &mut Explorer,
     refusal: &mut LineBuffer,
-    command: Command,
+    command: DebuggerCommand,
     writer: &mut Writer<'_, W>,
 ) -> Result<LineAction, WriteError>
-    ensures { WritesSomeText result (ObeysCommand (AnswersAndContinues true) (AnswersAndEndsSession true) explorer.old command explorer.new result) W.contents writer.old writer.new }
+    ensures { WritesSomeText result (AnswersCommandOrEnds (AnswersLineAndContinues true) (AnswersAndEndsSession true) explorer.old command explorer.new result) W.contents writer.old writer.new }
 {
     let mut long = Vec::new(alloc);
     let mut held = Writer::new(&mut long);
-    match explorer.obey(alloc, command, &mut held)? {
+    match explorer.obey_debugger_command(alloc, command, &mut held)? {
         LineAction::Quit => Ok(LineAction::Quit),
         LineAction::Refused => Ok(LineAction::Refused),
         LineAction::Answered => pass_on(&mut held, refusal, writer),
@@ -148,10 +150,10 @@ fn pass_on<W: Write>(
     refusal: &mut LineBuffer,
     writer: &mut Writer<'_, W>,
 ) -> Result<LineAction, WriteError>
-    ensures answer { (answer : Bytes) → IsTextWritten (Some held.old.stream.now.items) [] answer held.old.pending.items →
+    ensures answer { (answer : Bytes) → IsTextWrittenOrPending (Some held.old.stream.now.items) [] answer held.old.pending.items →
         WritesExactly result answer W.contents writer.old writer.new
-        × IfOk result (λ turn. turn ≡ turn_after answer)
-        × IfOk result (λ turn. IsNoted turn answer refusal.new.items) }
+        × IfOk result (λ turn. turn ≡ strict_action_after_answer answer)
+        × IfOk result (λ turn. IsRefusalNoted turn answer refusal.new.items) }
     ensures goes_on { result ≢ Ok LineAction.Quit }
 {
     if held.stream.is_empty() {
@@ -171,12 +173,12 @@ fn write_answer<W: Write>(
     writer: &mut Writer<'_, W>,
 ) -> Result<LineAction, WriteError>
     ensures written { WritesExactly result answer.now W.contents writer.old writer.new }
-    ensures turn { IfOk result (λ turn. turn ≡ turn_after answer.now) }
-    ensures noted { IfOk result (λ turn. IsNoted turn answer.now refusal.new.items) }
+    ensures turn { IfOk result (λ turn. turn ≡ strict_action_after_answer answer.now) }
+    ensures noted { IfOk result (λ turn. IsRefusalNoted turn answer.now refusal.new.items) }
     ensures goes_on { result ≢ Ok LineAction.Quit }
 {
     writer.write_blocks(answer)?;
-    if !is_refusal(answer) {
+    if !is_refusal_answer(answer) {
         return Ok(LineAction::Answered);
     }
     refusal.clear();
@@ -197,14 +199,14 @@ fn front_of(answer: &[u8]) -> &[u8]
 }
 
 /// Whether an answer is a refusal.
-pub fn is_refusal(answer: &[u8]) -> bool
-    ensures { result ≡ is_refusal answer.now }
+pub fn is_refusal_answer(answer: &[u8]) -> bool
+    ensures { result ≡ is_refusal_answer answer.now }
 {
     answer.starts_with(b"no ".as_slice())
 }
 
 /// The status of a session that ended so. Where it ended at a refused command, `errors` gets the number of the line, and the refusal.
-pub fn end_session<E: Write>(
+pub fn report_session_end_status<E: Write>(
     errors: &mut E,
     ending: Result<CommandsEnd, WriteError>,
     is_strict: bool,
@@ -217,7 +219,7 @@ pub fn end_session<E: Write>(
             let _told = report_refusal(errors, number, refusal.as_slice());
             Status::CommandRefused
         }
-        Ok(CommandsEnd::Past(number)) => {
+        Ok(CommandsEnd::PastLimit(number)) => {
             if is_strict {
                 let _told = report_refusal(errors, number, b"no 33 input\n");
                 return Status::CommandRefused;

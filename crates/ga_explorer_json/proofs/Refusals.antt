@@ -3,7 +3,7 @@ use Rattle.std.proofs.Common.{◌≡◌, ℕ, zero, suc, List, [], ◌∷◌, �
 use Rattle.ga_text.specs.Lines.{Text}
 use Rattle.ga_grid.specs.declared.node_id.NodeId.{NodeId}
 use Rattle.ga_lab.specs.declared.fault.LabFault.{LabFault}
-use Rattle.ga_explorer_json.specs.Refusals.{refusal_json, step_refusal_json}
+use Rattle.ga_explorer_json.specs.Refusals.{refusal_json, refusal_json_about_step}
 
 pub refused_as : (command : Text) (code other_code : ℕ) (why other_why hint other_hint : Text) → code ≡ other_code → why ≡ other_why → hint ≡ other_hint
     → refusal_json command code why hint ≡ refusal_json command other_code other_why other_hint
@@ -11,8 +11,8 @@ refused_as command code other_code why other_why hint other_hint e f h =
     ap (λ (z : ℕ). refusal_json command z why hint) e ∙ ap (λ (z : Text). refusal_json command other_code z hint) f
     ∙ ap (λ (z : Text). refusal_json command other_code other_why z) h
 
-pub counted : (command : Text) (node : NodeId) (count other : ℕ) (why : LabFault) → count ≡ other → step_refusal_json command node count why ≡ step_refusal_json command node other why
-counted command node count other why e = ap (λ (z : ℕ). step_refusal_json command node z why) e
+pub counted : (command : Text) (node : NodeId) (count other : ℕ) (why : LabFault) → count ≡ other → refusal_json_about_step command node count why ≡ refusal_json_about_step command node other why
+counted command node count other why e = ap (λ (z : ℕ). refusal_json_about_step command node z why) e
 
 -- ---- a text that is added as far as there is room
 

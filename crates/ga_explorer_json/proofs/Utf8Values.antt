@@ -13,11 +13,11 @@ use Rattle.ga_explorer_text.specs.Waiting.{name_text_of_node}
 use Rattle.ga_json.specs.Values.{JsonValue, null, boolean, number, string, array, object, JsonItems, no_items, item, JsonMembers, no_members, member}
 use Rattle.ga_json.specs.Compact.{IsWritableValue, AreWritableItems, AreWritableMembers, json_line}
 use Rattle.ga_json.specs.FieldValues.{text_json}
-use Rattle.ga_json.specs.Fields.{NamedValue, with_members, json_object, json_report}
+use Rattle.ga_json.specs.Fields.{NamedValue, members_with_named_values, json_object, json_report}
 use Rattle.ga_json.proofs.Written.{line_is_json, rows_name}
-use Rattle.ga_explorer_json.specs.Parts.{number_or_null, number_unless_zero}
-use Rattle.ga_explorer_json.specs.Rows.{json_rows}
-use Rattle.ga_explorer_json.specs.JsonLines.{IsJsonTextLine}
+use Rattle.ga_explorer_json.specs.Parts.{json_number_or_null, json_number_unless_zero}
+use Rattle.ga_explorer_json.specs.Rows.{json_rows_of_items}
+use Rattle.ga_explorer_json.specs.JsonLines.{IsValidJsonLine}
 
 -- ---- ASCII
 
@@ -74,17 +74,17 @@ node_name node = number_name node.number node.in_range
 
 -- ---- values
 
-pub is_json_line : (value : JsonValue) (answer : Text) → answer ≡ json_line value → IsWritableValue value → IsJsonTextLine answer
+pub is_json_line : (value : JsonValue) (answer : Text) → answer ≡ json_line value → IsWritableValue value → IsValidJsonLine answer
 is_json_line value answer e h = (value, e, line_is_json value h)
 
 pub checked_text : (text : Text) → IsWritableValue (text_json text)
 checked_text text = cond_both (is_utf8 text) (string text) null IsWritableValue (λ e. IsUtf8-from_is_utf8 text e) (λ _. tt)
 
-pub optional_number : (n : Option ℕ) → IsWritableValue (number_or_null n)
+pub optional_number : (n : Option ℕ) → IsWritableValue (json_number_or_null n)
 optional_number None = tt
 optional_number (Some n) = tt
 
-pub number_if_any : (n : ℕ) → IsWritableValue (number_unless_zero n)
+pub number_if_any : (n : ℕ) → IsWritableValue (json_number_unless_zero n)
 number_if_any n = cond_both (n == 0) null (number (pos n)) IsWritableValue (λ _. tt) (λ _. tt)
 
 -- ---- fields, and rows
@@ -110,7 +110,7 @@ pub fields_append : (first more : List NamedValue) → AreUtf8Fields first → A
 fields_append [] more h k = k
 fields_append (field ∷ first) more h k = (h.0, fields_append first more h.1 k)
 
-members : (named : List NamedValue) (more : JsonMembers) → AreUtf8Fields named → AreWritableMembers more → AreWritableMembers (with_members named more)
+members : (named : List NamedValue) (more : JsonMembers) → AreUtf8Fields named → AreWritableMembers more → AreWritableMembers (members_with_named_values named more)
 members [] more h k = k
 members (field ∷ named) more h k = (h.0.0, h.0.1, members named more h.1 k)
 
@@ -120,7 +120,7 @@ json_object_of_member named h = members named no_members h tt
 pub report_of : (head : List NamedValue) (rows : JsonItems) → AreUtf8Fields head → AreWritableItems rows → IsWritableValue (json_report head rows)
 report_of head rows h k = members head (member (codes "rows") (array rows) no_members) h (rows_name, k, tt)
 
-pub rows_of : {A : Type 0} (row : A → JsonValue) → ((x : A) → IsWritableValue (row x)) → (xs : List A) → AreWritableItems (json_rows row xs)
+pub rows_of : {A : Type 0} (row : A → JsonValue) → ((x : A) → IsWritableValue (row x)) → (xs : List A) → AreWritableItems (json_rows_of_items row xs)
 rows_of row each [] = tt
 rows_of row each (x ∷ xs) = (each x, rows_of row each xs)
 

@@ -10,7 +10,7 @@ use Rattle.ga_json.specs.Values.{JsonValue, JsonItems}
 use Rattle.ga_json.specs.Compact.{json_line}
 use Rattle.ga_json.specs.Fields.{NamedValue, named_field_value, row_json, report_json, json_report}
 use Rattle.ga_json.specs.declared.field.Field.{Field}
-use Rattle.ga_json.specs.inner.{rows_from}
+use Rattle.ga_json.specs.inner.{rows_from_first_row}
 use Rattle.ga_explorer_json.specs.Rows.{IsJsonLine, rows_if_first_present}
 use Rattle.ga_json.proofs.Says.{says_as}
 
@@ -50,7 +50,7 @@ items_by_false test other rows e = ap (λ (b : Bool). if b then other else rows)
 
 -- a row that is taken
 pub row_from : (taken : Option (ArrayVec Field)) (row : Option JsonValue) (rest : JsonItems) → option_map (λ (fields : ArrayVec Field). row_json fields.items) taken ≡ row
-    → rows_if_first_present row rest ≡ rows_from (option_map (λ (fields : ArrayVec Field). fields.items) taken) rest
+    → rows_if_first_present row rest ≡ rows_from_first_row (option_map (λ (fields : ArrayVec Field). fields.items) taken) rest
 row_from (Some fields) row rest e = ap (λ z. rows_if_first_present z rest) (sym e)
 row_from None row rest e = ap (λ z. rows_if_first_present z rest) (sym e)
 

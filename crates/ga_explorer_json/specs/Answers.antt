@@ -2,20 +2,20 @@
 use Rattle.std.specs.Prelude.{◌≡◌, ℕ, ◌<◌, ◌≤◌, List, [], length, codes, Option, Some, None, option_and_then}
 use Rattle.ga_text.specs.Lines.{Text, Line, max_input_line}
 use Rattle.ga_event.specs.Told.{count_steps}
-use Rattle.ga_lab.specs.Machine.{State, undo_answer, rewind_answer, state_after_undo, state_after_rewind}
+use Rattle.ga_lab.specs.Machine.{MachineState, undo_answer, rewind_answer, state_after_undo, state_after_rewind}
 use Rattle.ga_debug_info.specs.declared.notes.DebugInfo.{DebugInfo}
-use Rattle.ga_scheduler.specs.Conditions.{active_conditions}
-use Rattle.ga_scheduler.specs.Backward.{find_newest_matching_event, machine_after_back_until, removed_event_count}
-use Rattle.ga_scheduler.specs.Running.{running, run_after_events, HasNextEvents, HasRunEnded}
+use Rattle.ga_scheduler.specs.Conditions.{conditions_before_never}
+use Rattle.ga_scheduler.specs.Backward.{find_newest_matching_event, machine_after_back_until, event_count_removed_by_back_until}
+use Rattle.ga_scheduler.specs.Running.{scheduled_machine, run_after_events, CanMakeNextEvents, HasRunEnded}
 use Rattle.ga_scheduler.specs.declared.schedule.Schedule.{Schedule}
 use Rattle.ga_scheduler.specs.declared.condition.Condition.{Condition}
 use Rattle.ga_scheduler.specs.declared.running.RunEnd.{RunEnd}
 use Rattle.ga_console.specs.Commands.{SpellsCommand}
-use Rattle.ga_console.specs.declared.command.Command.{Command}
-use Rattle.ga_console.specs.declared.command.Command.TheVariants.{Step, Back, Rewind, Node, Memory, Trace, Why, Count, Dump, Quit}
-use Rattle.ga_console.specs.Selectors.{selected_step}
+use Rattle.ga_console.specs.declared.command.DebuggerCommand.{DebuggerCommand}
+use Rattle.ga_console.specs.declared.command.DebuggerCommand.TheVariants.{Step, Back, Rewind, Node, Memory, Trace, Why, Count, Dump, Quit}
+use Rattle.ga_console.specs.Selectors.{selected_step_number}
 use Rattle.ga_explorer.specs.Reading.{part_of_node_value}
-use Rattle.ga_explorer.specs.Commands.{command_of_line}
+use Rattle.ga_explorer.specs.Commands.{explorer_command_of_line}
 use Rattle.ga_explorer.specs.Opening.{ExplorerState}
 use Rattle.ga_explorer.specs.declared.commands.ExplorerCommand.{ExplorerCommand}
 use Rattle.ga_explorer.specs.declared.commands.ExplorerCommand.TheVariants as asked
@@ -24,25 +24,25 @@ use Rattle.ga_explorer.specs.declared.commands.Query.TheVariants as query
 use Rattle.ga_json.specs.Values.{JsonValue}
 use Rattle.ga_json.specs.Compact.{json_line}
 use Rattle.ga_explorer_json.specs.Rows.{IsJsonLine}
-use Rattle.ga_explorer_json.specs.Changes.{IsStepJson, undo_json, rewind_json, removed_events_json, run_json}
+use Rattle.ga_explorer_json.specs.Changes.{IsStepJson, undo_json, rewind_json, removal_counts_json, run_json}
 use Rattle.ga_explorer_json.specs.NodeState.{node_json}
-use Rattle.ga_explorer_json.specs.Readings.{memory_word_json, counts_json}
+use Rattle.ga_explorer_json.specs.Readings.{memory_word_json, history_counts_json}
 use Rattle.ga_explorer_json.specs.Steps.{IsTraceJson, IsWhyJson, IsDumpJson}
-use Rattle.ga_explorer_json.specs.Effects.{IsEffectsJson}
-use Rattle.ga_explorer_json.specs.Words.{words_json}
-use Rattle.ga_explorer_json.specs.Writes.{writes_json}
-use Rattle.ga_explorer_json.specs.Around.{at_json}
-use Rattle.ga_explorer_json.specs.Whence.{IsWhenceJson}
-use Rattle.ga_explorer_json.specs.Because.{because_json}
+use Rattle.ga_explorer_json.specs.Effects.{IsRollbackEffectsJson}
+use Rattle.ga_explorer_json.specs.Words.{link_words_answer_json}
+use Rattle.ga_explorer_json.specs.Writes.{cell_writes_answer_json}
+use Rattle.ga_explorer_json.specs.Around.{steps_around_answer_json}
+use Rattle.ga_explorer_json.specs.Whence.{IsProvenanceJson}
+use Rattle.ga_explorer_json.specs.Because.{decisions_answer_json}
 use Rattle.ga_explorer_json.specs.Races.{IsRacesJson}
-use Rattle.ga_explorer_json.specs.Who.{IsWhoJson}
-use Rattle.ga_explorer_json.specs.Texts.{IsQueryText, long_line_json, syntax_json}
+use Rattle.ga_explorer_json.specs.Who.{IsWaitingNodesJson}
+use Rattle.ga_explorer_json.specs.Texts.{IsTextAnswerOfQuery, long_line_refusal_json, syntax_refusal_of_line}
 use Rattle.ga_explorer_json.specs.declared.answers.LineRequest.{LineRequest}
 use Rattle.ga_explorer_json.specs.declared.answers.LineRequest.TheVariants as request
 
 -- ---- a command of the debugger
 
-abbrev pub AnswersCommandJson : State → Command → Text → State → Type 0
+abbrev pub AnswersCommandJson : MachineState → DebuggerCommand → Text → MachineState → Type 0
 AnswersCommandJson s (Step node) answer new = IsJsonLine (IsStepJson s node new) answer
 AnswersCommandJson s Back answer new = (answer ≡ json_line (undo_json (undo_answer s) (length new.kept))) × (new ≡ state_after_undo s)
 AnswersCommandJson s (Rewind node k) answer new =
@@ -51,7 +51,7 @@ AnswersCommandJson s (Node node) answer new = (answer ≡ json_line (node_json s
 AnswersCommandJson s (Memory node address) answer new = (answer ≡ json_line (memory_word_json s node address)) × (new ≡ s)
 AnswersCommandJson s (Trace node) answer new = IsJsonLine (IsTraceJson s node) answer × (new ≡ s)
 AnswersCommandJson s (Why from k to j) answer new = IsJsonLine (IsWhyJson s from k to j) answer × (new ≡ s)
-AnswersCommandJson s Count answer new = (answer ≡ json_line (counts_json s)) × (new ≡ s)
+AnswersCommandJson s Count answer new = (answer ≡ json_line (history_counts_json s)) × (new ≡ s)
 AnswersCommandJson s Dump answer new = IsJsonLine (IsDumpJson s) answer × (new ≡ s)
 AnswersCommandJson s Quit answer new = (answer ≡ []) × (new ≡ s)
 
@@ -59,53 +59,53 @@ AnswersCommandJson s Quit answer new = (answer ≡ []) × (new ≡ s)
 
 -- a query; of one without rows the text
 abbrev pub AnswersQueryJson : ExplorerState → Query → JsonValue → Type 0
-AnswersQueryJson e (query.Effects node which) answer = IsEffectsJson e.notes e.lab node (selected_step e.lab node which) answer
-AnswersQueryJson e (query.Words from to) answer = answer ≡ words_json e.lab from to
-AnswersQueryJson e (query.Writes node address) answer = answer ≡ writes_json e.lab node address
-AnswersQueryJson e (query.At node which around) answer = answer ≡ at_json e.notes e.lab node (selected_step e.lab node which) around
+AnswersQueryJson e (query.Effects node which) answer = IsRollbackEffectsJson e.notes e.lab node (selected_step_number e.lab node which) answer
+AnswersQueryJson e (query.Words from to) answer = answer ≡ link_words_answer_json e.lab from to
+AnswersQueryJson e (query.Writes node address) answer = answer ≡ cell_writes_answer_json e.lab node address
+AnswersQueryJson e (query.StepsAround node which around) answer = answer ≡ steps_around_answer_json e.notes e.lab node (selected_step_number e.lab node which) around
 AnswersQueryJson e (query.Whence node which value first) answer =
-    IsWhenceJson e.notes e.lab node (selected_step e.lab node which) (option_and_then part_of_node_value value) first answer
-AnswersQueryJson e (query.Because node which most) answer = answer ≡ because_json e.notes e.lab node (selected_step e.lab node which) most
+    IsProvenanceJson e.notes e.lab node (selected_step_number e.lab node which) (option_and_then part_of_node_value value) first answer
+AnswersQueryJson e (query.Because node which most) answer = answer ≡ decisions_answer_json e.notes e.lab node (selected_step_number e.lab node which) most
 AnswersQueryJson e (query.Races only) answer = IsRacesJson e.lab only answer
-AnswersQueryJson e query.Who answer = IsWhoJson e.lab answer
-AnswersQueryJson e query.Chip answer = IsQueryText (codes "chip") e query.Chip answer
-AnswersQueryJson e query.Save answer = IsQueryText (codes "save") e query.Save answer
-AnswersQueryJson e query.Help answer = IsQueryText (codes "help") e query.Help answer
-AnswersQueryJson e (query.HelpOf place) answer = IsQueryText (codes "help") e (query.HelpOf place) answer
+AnswersQueryJson e query.WaitingNodes answer = IsWaitingNodesJson e.lab answer
+AnswersQueryJson e query.Chip answer = IsTextAnswerOfQuery (codes "chip") e query.Chip answer
+AnswersQueryJson e query.Save answer = IsTextAnswerOfQuery (codes "save") e query.Save answer
+AnswersQueryJson e query.Help answer = IsTextAnswerOfQuery (codes "help") e query.Help answer
+AnswersQueryJson e (query.CommandHelp place) answer = IsTextAnswerOfQuery (codes "help") e (query.CommandHelp place) answer
 
 -- Events were made as a run makes them: the answer has how many and why the run ended, and the machine is the one after them.
-pub record IsRunJson (s : State) (schedule : Schedule) (most : ℕ) (until : List Condition) (answer : Text) (new : State) : Type 0 where
+pub record IsRunJson (s : MachineState) (schedule : Schedule) (most : ℕ) (until : List Condition) (answer : Text) (new : MachineState) : Type 0 where
   pub events : ℕ
   pub end : RunEnd
-  pub made : HasNextEvents (running s schedule) events
+  pub made : CanMakeNextEvents (scheduled_machine s schedule) events
   pub within : events ≤ most
-  pub ended : HasRunEnded (running s schedule) most until events end
-  pub state : new ≡ (run_after_events (running s schedule) events).state
+  pub ended : HasRunEnded (scheduled_machine s schedule) most until events end
+  pub state : new ≡ (run_after_events (scheduled_machine s schedule) events).state
   pub line : answer ≡ json_line (run_json events end)
 
 abbrev pub AnswersExplorerJson : ExplorerState → ExplorerCommand → Text → ExplorerState → Type 0
-AnswersExplorerJson e (asked.Run schedule most until) answer new = IsRunJson e.lab schedule most (active_conditions until) answer new.lab × (new.notes ≡ e.notes)
+AnswersExplorerJson e (asked.Run schedule most until) answer new = IsRunJson e.lab schedule most (conditions_before_never until) answer new.lab × (new.notes ≡ e.notes)
 AnswersExplorerJson e (asked.BackUntil only until) answer new =
-    (answer ≡ json_line (removed_events_json (codes "back") (removed_event_count only e.lab (find_newest_matching_event (active_conditions until) only e.lab)) (length new.lab.kept)))
-    × (new.lab ≡ machine_after_back_until only e.lab (find_newest_matching_event (active_conditions until) only e.lab)) × (new.notes ≡ e.notes)
+    (answer ≡ json_line (removal_counts_json (codes "back") (event_count_removed_by_back_until only e.lab (find_newest_matching_event (conditions_before_never until) only e.lab)) (length new.lab.kept)))
+    × (new.lab ≡ machine_after_back_until only e.lab (find_newest_matching_event (conditions_before_never until) only e.lab)) × (new.notes ≡ e.notes)
 AnswersExplorerJson e (asked.AnswerQuery question) answer new = IsJsonLine (AnswersQueryJson e question) answer × (new ≡ e)
 
 -- ---- a line
 
 -- what the line asks for
-abbrev pub IsLineRequest : Option DebugInfo → Line → LineRequest → Type 0
-IsLineRequest notes line (request.Explore asked) = (length line ≤ max_input_line) × (command_of_line notes line ≡ Some asked)
-IsLineRequest notes line (request.Debug command) = (length line ≤ max_input_line) × SpellsCommand command line
-IsLineRequest notes line request.Long = max_input_line < length line
-IsLineRequest notes line request.Unknown =
-    (length line ≤ max_input_line) × (command_of_line notes line ≡ None) × ((command : Command) → ¬ SpellsCommand command line)
+abbrev pub IsRequestOfLine : Option DebugInfo → Line → LineRequest → Type 0
+IsRequestOfLine notes line (request.Explore asked) = (length line ≤ max_input_line) × (explorer_command_of_line notes line ≡ Some asked)
+IsRequestOfLine notes line (request.Debug command) = (length line ≤ max_input_line) × SpellsCommand command line
+IsRequestOfLine notes line request.TooLongLine = max_input_line < length line
+IsRequestOfLine notes line request.Unknown =
+    (length line ≤ max_input_line) × (explorer_command_of_line notes line ≡ None) × ((command : DebuggerCommand) → ¬ SpellsCommand command line)
 
 abbrev pub AnswersLineRequest : ExplorerState → Line → LineRequest → Text → ExplorerState → Type 0
 AnswersLineRequest e line (request.Explore asked) answer new = AnswersExplorerJson e asked answer new
 AnswersLineRequest e line (request.Debug command) answer new = AnswersCommandJson e.lab command answer new.lab × (new.notes ≡ e.notes)
-AnswersLineRequest e line request.Long answer new = (answer ≡ json_line long_line_json) × (new ≡ e)
-AnswersLineRequest e line request.Unknown answer new = (answer ≡ json_line (syntax_json line)) × (new ≡ e)
+AnswersLineRequest e line request.TooLongLine answer new = (answer ≡ json_line long_line_refusal_json) × (new ≡ e)
+AnswersLineRequest e line request.Unknown answer new = (answer ≡ json_line (syntax_refusal_of_line line)) × (new ≡ e)
 
 -- the line is answered by what it asks for
 abbrev pub AnswersJsonLine : ExplorerState → Line → Text → ExplorerState → Type 0
-AnswersJsonLine e line answer new = (request : LineRequest) × IsLineRequest e.notes line request × AnswersLineRequest e line request answer new
+AnswersJsonLine e line answer new = (request : LineRequest) × IsRequestOfLine e.notes line request × AnswersLineRequest e line request answer new

@@ -11,21 +11,21 @@ use Rattle.ga_json.specs.Grammar.{IsJsonText}
 use Rattle.ga_json.specs.Compact.{json_line}
 
 -- The line of a value is a JSON text of it.
-abbrev pub HasJsonText : JsonValue → Type 0
-HasJsonText value = IsJsonText (json_line value) value
+abbrev pub IsPrintedAsValidJson : JsonValue → Type 0
+IsPrintedAsValidJson value = IsJsonText (json_line value) value
 
 -- the text is such a line
-abbrev pub IsJsonTextLine : Text → Type 0
-IsJsonTextLine text = (value : JsonValue) × (text ≡ json_line value) × HasJsonText value
+abbrev pub IsValidJsonLine : Text → Type 0
+IsValidJsonLine text = (value : JsonValue) × (text ≡ json_line value) × IsPrintedAsValidJson value
 
 -- the text is such lines, one after another
-abbrev pub AreJsonTextLines : Text → Type 0
-AreJsonTextLines text = (values : List JsonValue) × (text ≡ flat_map json_line values) × AllByRecursion HasJsonText values
+abbrev pub AreValidJsonLines : Text → Type 0
+AreValidJsonLines text = (values : List JsonValue) × (text ≡ flat_map json_line values) × AllByRecursion IsPrintedAsValidJson values
 
 -- nothing is answered to `quit`, and to any other line such a line
-abbrev pub IsJsonOrQuits : Line → Text → Type 0
-IsJsonOrQuits line answer = ((line ≡ quit_line) × (answer ≡ [])) ⊎ IsJsonTextLine answer
+abbrev pub IsJsonLineUnlessQuit : Line → Text → Type 0
+IsJsonLineUnlessQuit line answer = ((line ≡ quit_line) × (answer ≡ [])) ⊎ IsValidJsonLine answer
 
 -- such lines were written, or where a write failed a front of them
-abbrev pub WritesJsonTextLines : Text → Status → Type 0
-WritesJsonTextLines written status = AreJsonTextLines written ⊎ ((status ≡ StreamFault) × (whole : Text) × AreJsonTextLines whole × TextHasPrefix whole written)
+abbrev pub WritesValidJsonLines : Text → Status → Type 0
+WritesValidJsonLines written status = AreValidJsonLines written ⊎ ((status ≡ StreamFault) × (whole : Text) × AreValidJsonLines whole × TextHasPrefix whole written)

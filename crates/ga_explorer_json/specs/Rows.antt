@@ -5,9 +5,9 @@ use Rattle.ga_json.specs.Values.{JsonValue, JsonItems, no_items, item}
 use Rattle.ga_json.specs.Compact.{json_line}
 
 -- a value for each of these
-abbrev pub json_rows : {A : Type 0} → (A → JsonValue) → List A → JsonItems
-json_rows row [] = no_items
-json_rows row (x ∷ xs) = item (row x) (json_rows row xs)
+abbrev pub json_rows_of_items : {A : Type 0} → (A → JsonValue) → List A → JsonItems
+json_rows_of_items row [] = no_items
+json_rows_of_items row (x ∷ xs) = item (row x) (json_rows_of_items row xs)
 
 -- the text is the line of such a value
 abbrev pub IsJsonLine : (JsonValue → Type 0) → Text → Type 0

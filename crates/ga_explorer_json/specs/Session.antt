@@ -7,28 +7,28 @@ use Rattle.ga_text.specs.declared.output.WriteError.{WriteError}
 use Rattle.ga_json.specs.Values.{JsonValue, string}
 use Rattle.ga_json.specs.Fields.{json_object}
 use Rattle.ga_json.specs.Compact.{json_line}
-use Rattle.ga_console.specs.Session.{AnswerRelation, ServesCommandsBy, IsWholeOrPrefixOnWriteError}
+use Rattle.ga_console.specs.Session.{AnswerRelation, ServesCommandsWithLimitRefusal, IsWholeOrPrefixOnWriteError}
 use Rattle.ga_console.specs.declared.commands.CommandsEnd.{CommandsEnd}
 use Rattle.ga_console.specs.declared.run.Status.{Status}
-use Rattle.ga_check_report.specs.Opened.{HasRefusalObjects}
+use Rattle.ga_check_report.specs.Opened.{HasRefusalJsonObjects}
 use Rattle.ga_explorer.specs.Opening.{ExplorerState, OpensTextBeforeCommands, IsTextBeforeCommands}
 use Rattle.ga_explorer.specs.Session.{session_status}
 use Rattle.ga_explorer_json.specs.Answers.{AnswersJsonLine}
-use Rattle.ga_explorer_json.specs.Refusals.{text_after_byte}
+use Rattle.ga_explorer_json.specs.Refusals.{text_after_first_such_byte}
 
 -- what begins a session
-abbrev pub ready_json : JsonValue
-ready_json = json_object ((codes "answer", string (codes "ready")) ∷ [])
+abbrev pub session_ready_json : JsonValue
+session_ready_json = json_object ((codes "answer", string (codes "ready")) ∷ [])
 
 -- what is written of an input past its bound: an object without a hint
-abbrev pub limit_refusal_line : Text
-limit_refusal_line = codes "{\"command\":null,\"refused\":33,\"why\":\"input\"}\n"
+abbrev pub long_input_refusal_line : Text
+long_input_refusal_line = codes "{\"command\":null,\"refused\":33,\"why\":\"input\"}\n"
 
 -- ---- a session that ends at its first refused command, if it is strict
 
 -- the text after the first comma
 abbrev pub text_after_comma : Text → Text
-text_after_comma text = text_after_byte 44 text
+text_after_comma text = text_after_first_such_byte 44 text
 
 -- the answer is a refusal: its second field is `refused`
 abbrev pub is_json_refusal : Text → Bool
@@ -55,11 +55,11 @@ pub record IsServedJsonSession (strict : Bool) (chip : Option Text) (limit : ℕ
   pub front : IsTextBeforeCommands text (commands ++ rest)
   pub opens : OpensTextBeforeCommands chip text limit begun
   pub last : ExplorerState
-  pub serves : ServesCommandsBy limit_refusal_line (AnswersJsonAndContinues strict) (AnswersJsonAndEndsSession strict) (input_limit - length text) begun commands rest said last ending
-  pub out : IsWholeOrPrefixOnWriteError ending (json_line ready_json ++ said) written
+  pub serves : ServesCommandsWithLimitRefusal long_input_refusal_line (AnswersJsonAndContinues strict) (AnswersJsonAndEndsSession strict) (input_limit - length text) begun commands rest said last ending
+  pub out : IsWholeOrPrefixOnWriteError ending (json_line session_ready_json ++ said) written
 
 -- What a session may have written, where read was read of its input and rest is left of it, and its status.
 pub data RunsJsonExplorer (strict : Bool) (file : Text) (chip : Option Text) (limit : ℕ) (read rest : Bytes) (written : Text) (status : Status) : Type 0 where
   served : (ending : Result CommandsEnd WriteError) → status ≡ session_status strict ending → IsServedJsonSession strict chip limit read rest written ending
       → RunsJsonExplorer strict file chip limit read rest written status
-  unbegun : HasRefusalObjects chip file read rest written status → RunsJsonExplorer strict file chip limit read rest written status
+  unbegun : HasRefusalJsonObjects chip file read rest written status → RunsJsonExplorer strict file chip limit read rest written status

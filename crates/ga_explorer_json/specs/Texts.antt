@@ -17,8 +17,8 @@ abbrev pub text_answer_json : Text → Text → JsonValue
 text_answer_json command text = json_object ((codes "command", string command) ∷ (codes "text", text_json text) ∷ [])
 
 -- the text is that of the query's answer
-abbrev pub IsQueryText : Text → ExplorerState → Query → JsonValue → Type 0
-IsQueryText command e asked answer = (text : Text) × AnswersQuery e asked text × (answer ≡ text_answer_json command text)
+abbrev pub IsTextAnswerOfQuery : Text → ExplorerState → Query → JsonValue → Type 0
+IsTextAnswerOfQuery command e asked answer = (text : Text) × AnswersQuery e asked text × (answer ≡ text_answer_json command text)
 
 -- no command, and the number, the word and the hint of the refusal
 abbrev pub line_refusal_json : ℕ → Text → Text → JsonValue
@@ -26,12 +26,12 @@ line_refusal_json code why hint =
     json_object ((codes "command", null) ∷ (codes "refused", number (pos code)) ∷ (codes "why", string why) ∷ (codes "hint", string hint) ∷ [])
 
 -- the line has more than 200 bytes
-abbrev pub long_line_json : JsonValue
-long_line_json = line_refusal_json 32 (codes "long") (hint_of_refusal (worded_long_line_refusal Advised))
+abbrev pub long_line_refusal_json : JsonValue
+long_line_refusal_json = line_refusal_json 32 (codes "long") (hint_of_refusal (worded_long_line_refusal Advised))
 
 -- no command, and what is the case or what to write in place of the line
 abbrev pub syntax_refusal_json : Text → JsonValue
 syntax_refusal_json hint = line_refusal_json 31 (codes "syntax") hint
 
-abbrev pub syntax_json : Line → JsonValue
-syntax_json line = syntax_refusal_json (command_suggestion line)
+abbrev pub syntax_refusal_of_line : Line → JsonValue
+syntax_refusal_of_line line = syntax_refusal_json (command_suggestion line)

@@ -1,28 +1,28 @@
 //! What answers a line of a session: the command that it spells, and the answer of each command.
 
 ghost use Rattle.std.specs.Prelude.{◌≡◌, option_and_then, IfSome};
-ghost use Rattle.ga_event.specs.Flow.{IsNodePart};
+ghost use Rattle.ga_event.specs.Flow.{IsNodePartInRange};
 ghost use Rattle.ga_text.specs.Output.{WritesSomeText};
 ghost use Rattle.ga_explorer.specs.Reading.{part_of_node_value};
 ghost use Rattle.ga_explorer.specs.inner.{explorer_state};
-ghost use Rattle.ga_explorer_json.specs.Answers.{AnswersCommandJson, AnswersExplorerJson, IsLineRequest, AnswersLineRequest};
-ghost use Rattle.ga_explorer_json.specs.inner.{IsToldJson};
+ghost use Rattle.ga_explorer_json.specs.Answers.{AnswersCommandJson, AnswersExplorerJson, IsRequestOfLine, AnswersLineRequest};
+ghost use Rattle.ga_explorer_json.specs.inner.{IsQueryJsonWritten};
 
-use crate::steps_json::{write_dump_json, write_trace_json, write_why_json};
+use crate::steps_json::{write_chain_json, write_dump_json, write_trace_json};
 use crate::text_json::{write_long_line_json, write_query_text, write_syntax_json};
 use crate::{
-    write_at_json, write_back_until_json, write_because_json, write_cell_writes_json,
-    write_counts_json, write_effects_json, write_link_words_json, write_memory_json,
-    write_node_json, write_races_json, write_rewind_json, write_run_json, write_step_json,
-    write_undo_json, write_whence_json, write_who_json,
+    write_back_until_json, write_cell_writes_json, write_decisions_json, write_event_counts_json,
+    write_link_words_json, write_memory_json, write_node_json, write_provenance_json,
+    write_races_json, write_rewind_json, write_rollback_effects_json, write_run_json,
+    write_step_json, write_steps_around_json, write_undo_json, write_waiting_nodes_json,
 };
-use ga_console::{Command, parse_debugger_command};
+use ga_console::{DebuggerCommand, parse_debugger_command};
 use ga_debug_info::DebugInfo;
 use ga_event::NodePart;
-use ga_explorer::{ExplorerCommand, Query, parse_command, part_of_node_value};
-use ga_image::LINE_LIMIT;
+use ga_explorer::{ExplorerCommand, Query, parse_explorer_command, part_of_node_value};
+use ga_image::MAX_IMAGE_LINE_BYTES;
 use ga_lab::Lab;
-use ga_scheduler::{NodeValue, active_conditions, run_schedule};
+use ga_scheduler::{NodeValue, conditions_before_never, run_schedule};
 use ga_text::{WriteResult, Writer};
 use std::alloc::Global;
 use std::io::Write;
@@ -33,21 +33,21 @@ pub enum LineRequest {
     /// A command of exploring.
     Explore(ExplorerCommand),
     /// A command of the debugger.
-    Debug(Command),
+    Debug(DebuggerCommand),
     /// Nothing, since the line has more than 200 bytes.
-    Long,
+    TooLongLine,
     /// Nothing, since the line spells no command.
     Unknown,
 }
 
 /// What a line asks for, of which at least the first 201 bytes are here.
 pub(crate) fn line_request(notes: &Option<DebugInfo>, line: &[u8]) -> LineRequest
-    ensures { IsLineRequest notes.now line.now result }
+    ensures { IsRequestOfLine notes.now line.now result }
 {
-    if line.len() > LINE_LIMIT {
-        return LineRequest::Long;
+    if line.len() > MAX_IMAGE_LINE_BYTES {
+        return LineRequest::TooLongLine;
     }
-    match parse_command(notes, line) {
+    match parse_explorer_command(notes, line) {
         Some(asked) => LineRequest::Explore(asked),
         None => match parse_debugger_command(line) {
             Some(command) => LineRequest::Debug(command),
@@ -74,7 +74,7 @@ pub(crate) fn answer_request<W: Write>(
     match request {
         LineRequest::Explore(asked) => explore_for_json(alloc, lab, notes, asked, writer),
         LineRequest::Debug(command) => obey_for_json(alloc, lab, command, writer),
-        LineRequest::Long => write_long_line_json(writer),
+        LineRequest::TooLongLine => write_long_line_json(writer),
         LineRequest::Unknown => write_syntax_json(line, writer),
     }
 }
@@ -86,27 +86,27 @@ pub(crate) fn answer_request<W: Write>(
 fn obey_for_json<W: Write>(
     alloc: Global,
     lab: &mut Lab,
-    command: Command,
+    command: DebuggerCommand,
     writer: &mut Writer<'_, W>,
 ) -> WriteResult
     ensures { WritesSomeText result (λ text. AnswersCommandJson lab.old command text lab.new) W.contents writer.old writer.new }
 {
     match command {
-        Command::Step(node) => write_step_json(lab, node, writer),
-        Command::Back => write_undo_json(lab, writer),
-        Command::Rewind(node, step) => write_rewind_json(lab, node, step, writer),
-        Command::Node(node) => write_node_json(lab, node, writer),
-        Command::Memory(node, address) => write_memory_json(lab, node, address, writer),
-        Command::Trace(node) => write_trace_json(lab, node, writer),
-        Command::Why {
+        DebuggerCommand::Step(node) => write_step_json(lab, node, writer),
+        DebuggerCommand::Back => write_undo_json(lab, writer),
+        DebuggerCommand::Rewind(node, step) => write_rewind_json(lab, node, step, writer),
+        DebuggerCommand::Node(node) => write_node_json(lab, node, writer),
+        DebuggerCommand::Memory(node, address) => write_memory_json(lab, node, address, writer),
+        DebuggerCommand::Trace(node) => write_trace_json(lab, node, writer),
+        DebuggerCommand::Why {
             from,
             from_step,
             to,
             to_step,
-        } => write_why_json(lab, (from, from_step), (to, to_step), writer),
-        Command::Count => write_counts_json(lab, writer),
-        Command::Dump => write_dump_json(alloc, lab, writer),
-        Command::Quit => Ok(()),
+        } => write_chain_json(lab, (from, from_step), (to, to_step), writer),
+        DebuggerCommand::Count => write_event_counts_json(lab, writer),
+        DebuggerCommand::Dump => write_dump_json(alloc, lab, writer),
+        DebuggerCommand::Quit => Ok(()),
     }
 }
 
@@ -130,12 +130,12 @@ fn explore_for_json<W: Write>(
             most,
             until,
         } => {
-            let watched = active_conditions(&until);
+            let watched = conditions_before_never(&until);
             let ran = run_schedule(lab, schedule, u64::from(most), watched);
             write_run_json(&ran, writer)
         }
         ExplorerCommand::BackUntil { only, until } => {
-            write_back_until_json(lab, active_conditions(&until), only, writer)
+            write_back_until_json(lab, conditions_before_never(&until), only, writer)
         }
         ExplorerCommand::AnswerQuery(query) => {
             answer_query_for_json(alloc, lab, notes, query, writer)
@@ -154,19 +154,19 @@ fn answer_query_for_json<W: Write>(
     asked: Query,
     writer: &mut Writer<'_, W>,
 ) -> WriteResult
-    ensures said { IsToldJson result (explorer_state lab.old notes.now) asked W.contents writer.old writer.new }
+    ensures said { IsQueryJsonWritten result (explorer_state lab.old notes.now) asked W.contents writer.old writer.new }
     ensures same { lab.new ≡ lab.old }
 {
     match asked {
         Query::Effects { node, which } => {
             let step = which.resolve(lab, node);
-            write_effects_json(alloc, lab, notes, node, step, writer)
+            write_rollback_effects_json(alloc, lab, notes, node, step, writer)
         }
         Query::Words { from, to } => write_link_words_json(lab, from, to, writer),
         Query::Writes { node, address } => write_cell_writes_json(lab, node, address, writer),
-        Query::At { node, which, most } => {
+        Query::StepsAround { node, which, most } => {
             let step = which.resolve(lab, node);
-            write_at_json(lab, notes, node, step, most, writer)
+            write_steps_around_json(lab, notes, node, step, most, writer)
         }
         Query::Whence {
             node,
@@ -175,7 +175,7 @@ fn answer_query_for_json<W: Write>(
             first,
         } => {
             let step = which.resolve(lab, node);
-            write_whence_json(
+            write_provenance_json(
                 alloc,
                 lab,
                 notes,
@@ -188,21 +188,21 @@ fn answer_query_for_json<W: Write>(
         }
         Query::Because { node, which, most } => {
             let step = which.resolve(lab, node);
-            write_because_json(lab, notes, node, step, most, writer)
+            write_decisions_json(lab, notes, node, step, most, writer)
         }
         Query::Races { only } => write_races_json(alloc, lab, only, writer),
-        Query::Who => write_who_json(lab, writer),
+        Query::WaitingNodes => write_waiting_nodes_json(lab, writer),
         Query::Chip => write_query_text(alloc, lab, notes, b"chip", asked, writer),
         Query::Save => write_query_text(alloc, lab, notes, b"save", asked, writer),
         Query::Help => write_query_text(alloc, lab, notes, b"help", asked, writer),
-        Query::HelpOf(_) => write_query_text(alloc, lab, notes, b"help", asked, writer),
+        Query::CommandHelp(_) => write_query_text(alloc, lab, notes, b"help", asked, writer),
     }
 }
 
 /// The part of a node that is named, if one is.
 fn part_of_value(value: Option<NodeValue>) -> Option<NodePart>
     ensures value { result ≡ option_and_then part_of_node_value value }
-    ensures part { IfSome result IsNodePart }
+    ensures part { IfSome result IsNodePartInRange }
 {
     match value {
         Some(value) => part_of_node_value(value),

@@ -2,14 +2,14 @@
 
 ghost use Rattle.std.specs.Prelude.{◌≡◌, ◌<◌, ◌≤◌, ◌+◌, ◌-◌, ◌++◌, map, option_map};
 ghost use Rattle.arrayvec.specs.ArrayVec.{array_vec_len};
-ghost use Rattle.ga_node.specs.Record.{record_of};
+ghost use Rattle.ga_node.specs.Record.{record_of_node};
 ghost use Rattle.ga_event.specs.Told.{count_steps};
 ghost use Rattle.ga_lab.specs.Machine.{node_at_step};
 ghost use Rattle.ga_text.specs.Output.{WritesExactly};
 ghost use Rattle.ga_json.specs.Compact.{json_line};
 ghost use Rattle.ga_json.specs.Fields.{named_field_value, row_json, json_object};
-ghost use Rattle.ga_explorer_json.specs.inner.{fields_of_source};
-ghost use Rattle.ga_explorer_json.specs.Around.{register_fields, step_fields, numbered_step_json, step_json_at, step_rows, at_answer_fields, steps_around_json, at_json};
+ghost use Rattle.ga_explorer_json.specs.inner.{fields_of_step_source};
+ghost use Rattle.ga_explorer_json.specs.Around.{register_fields, step_fields, numbered_step_json, step_json_at, step_rows, steps_around_head_fields, steps_around_json, steps_around_answer_json};
 
 use crate::event::push_action;
 use crate::refusal::write_step_refusal;
@@ -18,8 +18,8 @@ use crate::source::{StepSource, source_fields, step_source};
 use ga_debug_info::DebugInfo;
 use ga_grid::NodeId;
 use ga_json::{Field, RowCursor, RowFields, row_fields, write_report};
-use ga_lab::{Lab, LabFault, Made, NodeWalk};
-use ga_node::{Node, Place};
+use ga_lab::{Lab, LabFault, MadeEvent, NodeWalk};
+use ga_node::{Node, NodePlace};
 use ga_text::{WriteResult, Writer};
 use std::io::Write;
 
@@ -27,7 +27,7 @@ use std::io::Write;
 ///
 /// # Errors
 /// A write failed.
-pub fn write_at_json<W: Write>(
+pub fn write_steps_around_json<W: Write>(
     lab: &Lab,
     notes: &Option<DebugInfo>,
     node: NodeId,
@@ -35,7 +35,7 @@ pub fn write_at_json<W: Write>(
     around: u32,
     writer: &mut Writer<'_, W>,
 ) -> WriteResult
-    ensures { WritesExactly result (json_line (at_json notes.now lab.now node step around)) W.contents writer.old writer.new }
+    ensures { WritesExactly result (json_line (steps_around_answer_json notes.now lab.now node step around)) W.contents writer.old writer.new }
 {
     if lab.has_step((node, step)) {
         write_steps_around(lab, notes, node, step, around, writer)
@@ -56,13 +56,13 @@ fn write_steps_around<W: Write>(
     requires { 0 < step }
     ensures { WritesExactly result (json_line (steps_around_json notes.now lab.now node step around)) W.contents writer.old writer.new }
 {
-    let head = at_answer_fields(node, step);
+    let head = steps_around_head_fields(node, step);
     let last = step.saturating_add(around).min(lab.steps(node));
     let mut rows = StepRows {
         lab,
         notes,
         node,
-        near: lab.walk(node, last),
+        near: lab.walk_node_from_step(node, last),
         place: (step - 1).saturating_sub(around),
     };
     write_report(&head, &mut rows, writer)
@@ -119,8 +119,8 @@ fn row_of_walk<'l>(
 }
 
 /// A step: its number, what it did, the registers after it, and what the source has for it.
-fn step_row<'l>(step: u32, made: Made, after: &Node, source: StepSource<'l>) -> RowFields<'l>
-    ensures { row_json result.items ≡ json_object (step_fields step (record_of after.now) made ++ fields_of_source source.entry) }
+fn step_row<'l>(step: u32, made: MadeEvent, after: &Node, source: StepSource<'l>) -> RowFields<'l>
+    ensures { row_json result.items ≡ json_object (step_fields step (record_of_node after.now) made ++ fields_of_step_source source.entry) }
 {
     let mut row = row_fields(&[Field::number(b"step", u64::from(step))]);
     push_action(&mut row, made);
@@ -130,23 +130,23 @@ fn step_row<'l>(step: u32, made: Made, after: &Node, source: StepSource<'l>) -> 
 }
 
 /// T, S, R, A, B and P.
-#[tactic(auto, unfolding(ga_node::specs::Record::record_of))]
+#[tactic(auto, unfolding(ga_node::specs::Record::record_of_node))]
 fn register_fields(node: &Node) -> [Field<'static>; 6]
-    ensures { map named_field_value result ≡ register_fields (record_of node.now) }
+    ensures { map named_field_value result ≡ register_fields (record_of_node node.now) }
 {
     [
-        Field::number(b"t", u64::from(node.d(0))),
-        Field::number(b"s", u64::from(node.d(1))),
-        Field::number(b"r", u64::from(node.r(0))),
-        Field::number(b"a", u64::from(node.get(Place::A))),
-        Field::number(b"b", u64::from(node.get(Place::B))),
-        Field::number(b"p", u64::from(node.get(Place::P))),
+        Field::number(b"t", u64::from(node.word_of_data_stack(0))),
+        Field::number(b"s", u64::from(node.word_of_data_stack(1))),
+        Field::number(b"r", u64::from(node.word_of_return_stack(0))),
+        Field::number(b"a", u64::from(node.get(NodePlace::A))),
+        Field::number(b"b", u64::from(node.get(NodePlace::B))),
+        Field::number(b"p", u64::from(node.get(NodePlace::P))),
     ]
 }
 
 /// The node and the step.
-fn at_answer_fields(node: NodeId, step: u32) -> [Field<'static>; 3]
-    ensures { map named_field_value result ≡ at_answer_fields node step }
+fn steps_around_head_fields(node: NodeId, step: u32) -> [Field<'static>; 3]
+    ensures { map named_field_value result ≡ steps_around_head_fields node step }
 {
     [
         Field::text(b"command", b"at"),

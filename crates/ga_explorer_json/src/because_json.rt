@@ -5,13 +5,13 @@ ghost use Rattle.arrayvec.specs.ArrayVec.{array_vec_len};
 ghost use Rattle.ga_event.specs.Told.{count_steps};
 ghost use Rattle.ga_lab.specs.Machine.{node_at_step};
 ghost use Rattle.ga_text.specs.Output.{WritesExactly};
-ghost use Rattle.ga_explorer_text.specs.Whence.{word_of_value, register_a_after_value};
+ghost use Rattle.ga_explorer_text.specs.Whence.{word_of_value, register_a_after_making_step};
 ghost use Rattle.ga_json.specs.Compact.{json_line};
 ghost use Rattle.ga_json.specs.Fields.{named_field_value, row_json};
-ghost use Rattle.ga_explorer_json.specs.Because.{source_value_fields, decided_step_fields, decision_json, decision_rows, because_fields, decisions_json, because_json};
+ghost use Rattle.ga_explorer_json.specs.Because.{tested_value_provenance_fields, branch_decision_fields, decision_json, decision_rows, decisions_head_fields, decisions_json, decisions_answer_json};
 
 use crate::event::{MAX_ACTION_FIELDS, push_action};
-use crate::part::value_fields;
+use crate::part::part_word_fields;
 use crate::refusal::write_step_refusal;
 use crate::row::push_fields;
 use crate::source::{SOURCE_FIELDS, source_fields, step_source};
@@ -19,11 +19,11 @@ use crate::source_value::{MAX_SOURCE_VALUE_FIELDS, push_source_value};
 use crate::whence_json::walk_to;
 use ga_debug_info::DebugInfo;
 use ga_event::NodePart;
-use ga_explorer_text::word_after_walking_back;
+use ga_explorer_text::part_word_after_walk_back;
 use ga_grid::NodeId;
 use ga_json::{Field, MAX_FIELDS, RowCursor, RowFields, row_fields, write_report};
 use ga_lab::{Lab, LabFault, NodeWalk};
-use ga_provenance::{Decision, Decisions, Value};
+use ga_provenance::{BranchDecision, BranchDecisions, PartValue};
 use ga_text::{WriteResult, Writer};
 use std::io::Write;
 
@@ -35,7 +35,7 @@ const MAX_DECIDED_STEP_FIELDS: usize = 1 + MAX_ACTION_FIELDS + 3 + SOURCE_FIELDS
 ///
 /// # Errors
 /// A write failed.
-pub fn write_because_json<W: Write>(
+pub fn write_decisions_json<W: Write>(
     lab: &Lab,
     notes: &Option<DebugInfo>,
     node: NodeId,
@@ -43,7 +43,7 @@ pub fn write_because_json<W: Write>(
     most: u32,
     writer: &mut Writer<'_, W>,
 ) -> WriteResult
-    ensures { WritesExactly result (json_line (because_json notes.now lab.now node step most)) W.contents writer.old writer.new }
+    ensures { WritesExactly result (json_line (decisions_answer_json notes.now lab.now node step most)) W.contents writer.old writer.new }
 {
     if lab.has_step((node, step)) {
         write_decisions(lab, notes, node, step, most, writer)
@@ -64,9 +64,9 @@ fn write_decisions<W: Write>(
     requires { step ≤ count_steps node.number lab.now.kept }
     ensures { WritesExactly result (json_line (decisions_json notes.now lab.now node step most)) W.contents writer.old writer.new }
 {
-    let head = because_fields(node, step);
-    let near = lab.walk(node, step);
-    let decisions = Decisions::before(lab, &near, node);
+    let head = decisions_head_fields(node, step);
+    let near = lab.walk_node_from_step(node, step);
+    let decisions = BranchDecisions::before(lab, &near, node);
     let mut rows = DecisionRows {
         lab,
         notes,
@@ -85,7 +85,7 @@ struct DecisionRows<'l> {
     notes: &'l Option<DebugInfo>,
     node: NodeId,
     near: NodeWalk<'l>,
-    decisions: Decisions<'l>,
+    decisions: BranchDecisions<'l>,
     most: u32,
     ghost stands: { near ≡ node_at_step lab.now node near.step },
     ghost same: { decisions ≡ node_at_step lab.now node decisions.step },
@@ -113,8 +113,8 @@ impl<'l> RowCursor<'l> for DecisionRows<'l> {
 }
 
 /// The node and the step.
-fn because_fields(node: NodeId, step: u32) -> [Field<'static>; 3]
-    ensures { map named_field_value result ≡ because_fields node step }
+fn decisions_head_fields(node: NodeId, step: u32) -> [Field<'static>; 3]
+    ensures { map named_field_value result ≡ decisions_head_fields node step }
 {
     [
         Field::text(b"command", b"because"),
@@ -129,7 +129,7 @@ fn decision_row<'l>(
     notes: &'l Option<DebugInfo>,
     walk: &NodeWalk<'l>,
     node: NodeId,
-    decision: Decision,
+    decision: BranchDecision,
 ) -> RowFields<'l>
     requires { walk.now ≡ node_at_step lab.now node walk.now.step }
     ensures { row_json result.items ≡ decision_json notes.now lab.now node decision }
@@ -146,15 +146,18 @@ fn decided_step_row<'l>(
     notes: &'l Option<DebugInfo>,
     walk: &NodeWalk<'l>,
     node: NodeId,
-    decision: Decision,
+    decision: BranchDecision,
 ) -> RowFields<'l>
     requires { walk.now ≡ node_at_step lab.now node walk.now.step }
-    ensures fields { map named_field_value result.items ≡ decided_step_fields notes.now lab.now node decision }
+    ensures fields { map named_field_value result.items ≡ branch_decision_fields notes.now lab.now node decision }
     ensures len { array_vec_len result ≤ MAX_DECIDED_STEP_FIELDS }
 {
     let mut row = row_fields(&[Field::number(b"step", u64::from(decision.step))]);
     push_action(&mut row, decision.made);
-    push_fields(&mut row, &value_fields(decision.tested.part, decision.word));
+    push_fields(
+        &mut row,
+        &part_word_fields(decision.tested.part, decision.word),
+    );
     let source = step_source(lab, notes, walk, node, node, decision.step);
     push_fields(&mut row, &source_fields(source));
     row
@@ -168,17 +171,17 @@ fn push_decision_source<'l, 'n>(
     notes: &'n Option<DebugInfo>,
     near: &NodeWalk<'l>,
     at: NodeId,
-    source: Value,
+    source: PartValue,
 )
     requires room { array_vec_len row.old + MAX_SOURCE_VALUE_FIELDS ≤ MAX_FIELDS }
     requires near { near.now ≡ node_at_step lab.now at near.now.step }
     ensures { map named_field_value row.new.items ≡ map named_field_value row.old.items
-        ++ source_value_fields notes.now lab.now source (word_of_value lab.now source) (register_a_after_value lab.now source) }
+        ++ tested_value_provenance_fields notes.now lab.now source (word_of_value lab.now source) (register_a_after_making_step lab.now source) }
 {
-    let Value { node, step, part } = source;
+    let PartValue { node, step, part } = source;
     let place = step.min(lab.steps(node));
     let walk = walk_to(lab, near, at, node, place);
-    let word = word_after_walking_back(lab, node, place, &walk, part);
-    let a = word_after_walking_back(lab, node, place, &walk, NodePart::A);
+    let word = part_word_after_walk_back(lab, node, place, &walk, part);
+    let a = part_word_after_walk_back(lab, node, place, &walk, NodePart::A);
     push_source_value(row, lab, notes, &walk, source, word, a);
 }

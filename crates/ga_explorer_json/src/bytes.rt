@@ -1,12 +1,12 @@
 //! Parts of a text that bytes delimit.
 
 ghost use Rattle.std.specs.Prelude.{◌≡◌};
-ghost use Rattle.ga_explorer_json.specs.Refusals.{text_after_byte, text_before_byte, hint_of_refusal};
+ghost use Rattle.ga_explorer_json.specs.Refusals.{text_after_first_such_byte, text_before_first_such_byte, hint_of_refusal};
 
 /// The text after the first of these bytes.
 #[tactic(auto, using(crate::proofs::Splits::after_found, crate::proofs::Splits::after_none))]
-pub(crate) fn text_after_byte(byte: u8, text: &[u8]) -> &[u8]
-    ensures { result.now ≡ text_after_byte byte text.now }
+pub(crate) fn text_after_first_such_byte(byte: u8, text: &[u8]) -> &[u8]
+    ensures { result.now ≡ text_after_first_such_byte byte text.now }
 {
     for (i, found) in text.iter().enumerate() {
         if *found == byte {
@@ -18,8 +18,8 @@ pub(crate) fn text_after_byte(byte: u8, text: &[u8]) -> &[u8]
 
 /// The text before the first of these bytes.
 #[tactic(auto, using(crate::proofs::Splits::before_found, crate::proofs::Splits::before_none))]
-pub(crate) fn text_before_byte(byte: u8, text: &[u8]) -> &[u8]
-    ensures { result.now ≡ text_before_byte byte text.now }
+pub(crate) fn text_before_first_such_byte(byte: u8, text: &[u8]) -> &[u8]
+    ensures { result.now ≡ text_before_first_such_byte byte text.now }
 {
     for (i, found) in text.iter().enumerate() {
         if *found == byte {
@@ -33,5 +33,8 @@ pub(crate) fn text_before_byte(byte: u8, text: &[u8]) -> &[u8]
 pub(crate) fn hint_of_refusal(line: &[u8]) -> &[u8]
     ensures { result.now ≡ hint_of_refusal line.now }
 {
-    text_before_byte(b'\n', text_after_byte(b' ', text_after_byte(b':', line)))
+    text_before_first_such_byte(
+        b'\n',
+        text_after_first_such_byte(b' ', text_after_first_such_byte(b':', line)),
+    )
 }

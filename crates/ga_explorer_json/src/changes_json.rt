@@ -4,20 +4,20 @@ ghost use Rattle.std.specs.Prelude.{◌≡◌, codes, length};
 ghost use Rattle.ga_event.specs.Told.{count_steps};
 ghost use Rattle.ga_lab.specs.Machine.{undo_answer, rewind_answer, state_after_undo, state_after_rewind};
 ghost use Rattle.ga_text.specs.Output.{WritesSomeText, WritesExactly};
-ghost use Rattle.ga_scheduler.specs.Backward.{find_newest_matching_event, machine_after_back_until, removed_event_count};
+ghost use Rattle.ga_scheduler.specs.Backward.{find_newest_matching_event, machine_after_back_until, event_count_removed_by_back_until};
 ghost use Rattle.ga_json.specs.Compact.{json_line};
 ghost use Rattle.ga_json.specs.Fields.{row_json};
 ghost use Rattle.ga_explorer_json.specs.Rows.{IsJsonLine};
-ghost use Rattle.ga_explorer_json.specs.Changes.{step_json, IsStepJson, removed_events_json, undo_json, rewind_json};
+ghost use Rattle.ga_explorer_json.specs.Changes.{step_answer_json, IsStepJson, removal_counts_json, undo_json, rewind_json};
 
 use crate::event::push_made_event;
 use crate::part::optional_number;
 use crate::refusal::{write_lab_refusal, write_step_refusal};
-use ga_event::Made;
+use ga_event::MadeEvent;
 use ga_grid::NodeId;
 use ga_json::{Field, RowFields, row_fields, write_object};
 use ga_lab::Lab;
-use ga_scheduler::{Condition, back_until};
+use ga_scheduler::{Condition, undo_until_condition};
 use ga_text::{WriteResult, Writer};
 use std::io::Write;
 
@@ -89,11 +89,11 @@ pub fn write_back_until_json<W: Write>(
     only: Option<NodeId>,
     writer: &mut Writer<'_, W>,
 ) -> WriteResult
-    ensures said { WritesExactly result (json_line (removed_events_json (codes "back") (removed_event_count only lab.old (find_newest_matching_event until.now only lab.old)) (length lab.new.kept)))
+    ensures said { WritesExactly result (json_line (removal_counts_json (codes "back") (event_count_removed_by_back_until only lab.old (find_newest_matching_event until.now only lab.old)) (length lab.new.kept)))
         W.contents writer.old writer.new }
     ensures state { lab.new ≡ machine_after_back_until only lab.old (find_newest_matching_event until.now only lab.old) }
 {
-    match back_until(lab, until, only) {
+    match undo_until_condition(lab, until, only) {
         Some(gone) => write_removed_events(
             b"back",
             Some(u64::from(gone)),
@@ -105,8 +105,8 @@ pub fn write_back_until_json<W: Write>(
 }
 
 /// An event that was made by `step`.
-fn step_row(made: Made) -> RowFields<'static>
-    ensures { row_json result.items ≡ step_json (Ok made) }
+fn step_row(made: MadeEvent) -> RowFields<'static>
+    ensures { row_json result.items ≡ step_answer_json (Ok made) }
 {
     let mut row = row_fields(&[Field::text(b"command", b"step")]);
     push_made_event(&mut row, made);
@@ -120,14 +120,14 @@ fn write_removed_events<W: Write>(
     kept: u32,
     writer: &mut Writer<'_, W>,
 ) -> WriteResult
-    ensures { WritesExactly result (json_line (removed_events_json command.now removed kept)) W.contents writer.old writer.new }
+    ensures { WritesExactly result (json_line (removal_counts_json command.now removed kept)) W.contents writer.old writer.new }
 {
     write_object(&removed_fields(command, removed, kept), writer)
 }
 
 /// How many events a command removed, if some, and how many are kept.
 fn removed_fields<'a>(command: &'a [u8], removed: Option<u64>, kept: u32) -> [Field<'a>; 3]
-    ensures { row_json result ≡ removed_events_json command.now removed kept }
+    ensures { row_json result ≡ removal_counts_json command.now removed kept }
 {
     [
         Field::text(b"command", command),

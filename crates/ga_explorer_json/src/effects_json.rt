@@ -4,8 +4,8 @@ ghost use Rattle.std.specs.Prelude.{◌≡◌, map};
 ghost use Rattle.ga_text.specs.Output.{WritesSomeText, WritesExactly};
 ghost use Rattle.ga_json.specs.Compact.{json_line};
 ghost use Rattle.ga_json.specs.Fields.{named_field_value, row_json};
-ghost use Rattle.ga_explorer_json.specs.Rows.{json_rows, IsJsonLine};
-ghost use Rattle.ga_explorer_json.specs.Effects.{effect_json, effects_fields, listed_effects_json, IsEffectsJson};
+ghost use Rattle.ga_explorer_json.specs.Rows.{json_rows_of_items, IsJsonLine};
+ghost use Rattle.ga_explorer_json.specs.Effects.{rollback_effect_json, rollback_effects_head_fields, listed_rollback_effects_json, IsRollbackEffectsJson};
 
 use crate::refusal::write_step_refusal;
 use crate::row::push_fields;
@@ -23,7 +23,7 @@ use std::io::Write;
 ///
 /// # Errors
 /// A write failed.
-pub fn write_effects_json<W: Write>(
+pub fn write_rollback_effects_json<W: Write>(
     alloc: Global,
     lab: &mut Lab,
     notes: &Option<DebugInfo>,
@@ -31,7 +31,7 @@ pub fn write_effects_json<W: Write>(
     step: u32,
     writer: &mut Writer<'_, W>,
 ) -> WriteResult
-    ensures said { WritesSomeText result (IsJsonLine (IsEffectsJson notes.now lab.old node step)) W.contents writer.old writer.new }
+    ensures said { WritesSomeText result (IsJsonLine (IsRollbackEffectsJson notes.now lab.old node step)) W.contents writer.old writer.new }
     ensures same { lab.new ≡ lab.old }
 {
     match find_rollback_effects(alloc, lab, node, step) {
@@ -53,9 +53,9 @@ fn write_listed_effects<W: Write>(
     effects: &[RollbackEffect],
     writer: &mut Writer<'_, W>,
 ) -> WriteResult
-    ensures { WritesExactly result (json_line (listed_effects_json notes.now lab.now node step events effects.now)) W.contents writer.old writer.new }
+    ensures { WritesExactly result (json_line (listed_rollback_effects_json notes.now lab.now node step events effects.now)) W.contents writer.old writer.new }
 {
-    let head = effects_fields(node, step, events, effects.len());
+    let head = rollback_effects_head_fields(node, step, events, effects.len());
     let mut rows = EffectRows {
         lab,
         notes,
@@ -73,7 +73,7 @@ struct EffectRows<'e> {
 }
 
 impl<'e> RowCursor<'e> for EffectRows<'e> {
-    ghost left = { λ rows. json_rows (effect_json rows.notes.now rows.lab.now) rows.rest.now };
+    ghost left = { λ rows. json_rows_of_items (rollback_effect_json rows.notes.now rows.lab.now) rows.rest.now };
 
     fn next(&mut self) -> Option<RowFields<'e>> {
         match self.rest.split_first() {
@@ -87,8 +87,13 @@ impl<'e> RowCursor<'e> for EffectRows<'e> {
 }
 
 /// The step, how many events would go, and of how many nodes.
-fn effects_fields(node: NodeId, step: u32, events: u32, nodes: usize) -> [Field<'static>; 5]
-    ensures { map named_field_value result ≡ effects_fields node step events nodes }
+fn rollback_effects_head_fields(
+    node: NodeId,
+    step: u32,
+    events: u32,
+    nodes: usize,
+) -> [Field<'static>; 5]
+    ensures { map named_field_value result ≡ rollback_effects_head_fields node step events nodes }
 {
     [
         Field::text(b"command", b"effects"),
@@ -105,7 +110,7 @@ fn effect_row<'e>(
     notes: &'e Option<DebugInfo>,
     effect: RollbackEffect,
 ) -> RowFields<'e>
-    ensures { row_json result.items ≡ effect_json notes.now lab.now effect }
+    ensures { row_json result.items ≡ rollback_effect_json notes.now lab.now effect }
 {
     let RollbackEffect { node, first, steps } = effect;
     let mut row = row_fields(&[
@@ -113,7 +118,7 @@ fn effect_row<'e>(
         Field::number(b"first_step", u64::from(first)),
         Field::number(b"steps", u64::from(steps)),
     ]);
-    let near = lab.walk(node, lab.steps(node));
+    let near = lab.walk_node_from_step(node, lab.steps(node));
     let source = step_source(lab, notes, &near, node, node, first);
     push_fields(&mut row, &source_fields(source));
     row

@@ -2,12 +2,12 @@
 
 ghost use Rattle.std.specs.Prelude.{◌≡◌, ◌≤◌, ◌+◌, ◌++◌, ◌%◌, map};
 ghost use Rattle.arrayvec.specs.ArrayVec.{array_vec_len};
-ghost use Rattle.ga_slots.specs.Codes.{name_of, op_of_code};
+ghost use Rattle.ga_slots.specs.Codes.{name_of_opcode, opcode_of_code};
 ghost use Rattle.ga_json.specs.Fields.{named_field_value};
-ghost use Rattle.ga_explorer_json.specs.Events.{own_event_fields, pass_fields, action_fields, made_event_fields};
+ghost use Rattle.ga_explorer_json.specs.Events.{own_event_fields, passed_word_fields, event_action_fields, made_event_fields};
 
 use crate::row::push_fields;
-use ga_event::Made;
+use ga_event::MadeEvent;
 use ga_grid::NodeId;
 use ga_json::{Field, MAX_FIELDS, RowFields};
 use ga_node::OwnEventKind;
@@ -18,14 +18,14 @@ use ga_word::Word18;
 pub(crate) const MAX_ACTION_FIELDS: usize = 6;
 
 /// Adds what a step did: the opcode, what came in its place, or the word that was passed, with both ends.
-pub(crate) fn push_action<'a>(row: &mut RowFields<'a>, made: Made)
+pub(crate) fn push_action<'a>(row: &mut RowFields<'a>, made: MadeEvent)
     requires { array_vec_len row.old + MAX_ACTION_FIELDS ≤ MAX_FIELDS }
-    ensures fields { map named_field_value row.new.items ≡ map named_field_value row.old.items ++ action_fields made }
+    ensures fields { map named_field_value row.new.items ≡ map named_field_value row.old.items ++ event_action_fields made }
     ensures len { array_vec_len row.new ≤ array_vec_len row.old + MAX_ACTION_FIELDS }
 {
     match made {
-        Made::Own { kind, .. } => push_own_event(row, kind),
-        Made::Pass {
+        MadeEvent::Own { kind, .. } => push_own_event(row, kind),
+        MadeEvent::Pass {
             writer,
             writer_step,
             reader,
@@ -33,20 +33,20 @@ pub(crate) fn push_action<'a>(row: &mut RowFields<'a>, made: Made)
             word,
         } => push_fields(
             row,
-            &pass_fields(writer, writer_step, reader, reader_step, word),
+            &passed_word_fields(writer, writer_step, reader, reader_step, word),
         ),
     }
 }
 
 /// A word that was passed, with both ends and their steps.
-fn pass_fields(
+fn passed_word_fields(
     writer: NodeId,
     writer_step: u32,
     reader: NodeId,
     reader_step: u32,
     word: Word18,
 ) -> [Field<'static>; MAX_ACTION_FIELDS]
-    ensures { map named_field_value result ≡ pass_fields writer writer_step reader reader_step word }
+    ensures { map named_field_value result ≡ passed_word_fields writer writer_step reader reader_step word }
 {
     [
         Field::text(b"what", b"pass"),
@@ -86,19 +86,19 @@ fn push_own_event<'a>(row: &mut RowFields<'a>, kind: OwnEventKind)
 
 /// The name of the opcode with this code.
 pub(crate) fn opcode_name(code: u8) -> &'static [u8]
-    ensures { result.now ≡ name_of (op_of_code (code % 32)) }
+    ensures { result.now ≡ name_of_opcode (opcode_of_code (code % 32)) }
 {
     Op::from_code(code % 32).name().as_bytes()
 }
 
 /// Adds an event: of a node's own with its step, or a word that was passed.
-pub(crate) fn push_made_event<'a>(row: &mut RowFields<'a>, made: Made)
+pub(crate) fn push_made_event<'a>(row: &mut RowFields<'a>, made: MadeEvent)
     requires { array_vec_len row.old + MAX_ACTION_FIELDS ≤ MAX_FIELDS }
     ensures fields { map named_field_value row.new.items ≡ map named_field_value row.old.items ++ made_event_fields made }
     ensures len { array_vec_len row.new ≤ array_vec_len row.old + MAX_ACTION_FIELDS }
 {
     match made {
-        Made::Own { node, step, kind } => {
+        MadeEvent::Own { node, step, kind } => {
             push_fields(
                 row,
                 &[
@@ -108,7 +108,7 @@ pub(crate) fn push_made_event<'a>(row: &mut RowFields<'a>, made: Made)
             );
             push_own_event(row, kind);
         }
-        Made::Pass {
+        MadeEvent::Pass {
             writer,
             writer_step,
             reader,
@@ -116,7 +116,7 @@ pub(crate) fn push_made_event<'a>(row: &mut RowFields<'a>, made: Made)
             word,
         } => push_fields(
             row,
-            &pass_fields(writer, writer_step, reader, reader_step, word),
+            &passed_word_fields(writer, writer_step, reader, reader_step, word),
         ),
     }
 }

@@ -4,7 +4,7 @@ ghost use Rattle.std.specs.Prelude.{◌≡◌, map, nat_lt, if◌then◌else◌,
 ghost use Rattle.ga_json.specs.FieldValues.{field_value_json};
 ghost use Rattle.ga_json.specs.Fields.{named_field_value};
 ghost use Rattle.ga_json.specs.Names.{is_field_name};
-ghost use Rattle.ga_explorer_json.specs.Parts.{number_or_null, number_unless_zero, node_part_word, node_part_index, value_fields};
+ghost use Rattle.ga_explorer_json.specs.Parts.{json_number_or_null, json_number_unless_zero, node_part_keyword, stack_place_or_cell_address, part_word_fields};
 
 use ga_event::NodePart;
 use ga_json::Field;
@@ -14,7 +14,7 @@ use ga_word::Word18;
 pub(crate) fn optional_number<'a>(name: &'a [u8], value: Option<u64>) -> Field<'a>
     requires { IsTrue (is_field_name name.now) }
     ensures name { result.name.now ≡ name.now }
-    ensures value { field_value_json result.value ≡ number_or_null value }
+    ensures value { field_value_json result.value ≡ json_number_or_null value }
 {
     match value {
         Some(value) => Field::number(name, value),
@@ -23,10 +23,10 @@ pub(crate) fn optional_number<'a>(name: &'a [u8], value: Option<u64>) -> Field<'
 }
 
 /// A number with its name, unless it is 0: the step that made a value, which a loaded one has not, or a stop.
-pub(crate) fn number_unless_zero<'a>(name: &'a [u8], value: u32) -> Field<'a>
+pub(crate) fn json_number_unless_zero<'a>(name: &'a [u8], value: u32) -> Field<'a>
     requires { IsTrue (is_field_name name.now) }
     ensures name { result.name.now ≡ name.now }
-    ensures value { field_value_json result.value ≡ number_unless_zero value }
+    ensures value { field_value_json result.value ≡ json_number_unless_zero value }
 {
     if value == 0 {
         Field::absent(name)
@@ -36,8 +36,8 @@ pub(crate) fn number_unless_zero<'a>(name: &'a [u8], value: u32) -> Field<'a>
 }
 
 /// The name of a register, a stack or a memory.
-pub(crate) fn node_part_word(part: NodePart) -> &'static [u8]
-    ensures { result.now ≡ node_part_word part }
+pub(crate) fn node_part_keyword(part: NodePart) -> &'static [u8]
+    ensures { result.now ≡ node_part_keyword part }
 {
     match part {
         NodePart::Data(k) => data_word(k),
@@ -53,13 +53,13 @@ pub(crate) fn node_part_word(part: NodePart) -> &'static [u8]
         NodePart::Slot => b"slot",
         NodePart::Wait => b"wait",
         NodePart::Stop => b"stop",
-        NodePart::Outside => b"outside",
+        NodePart::OutsideWord => b"outside",
     }
 }
 
 /// The name of a word of the data stack.
 fn data_word(k: u8) -> &'static [u8]
-    ensures { result.now ≡ node_part_word (NodePart.Data k) }
+    ensures { result.now ≡ node_part_keyword (NodePart.Data k) }
 {
     if k == 0 {
         b"t"
@@ -71,8 +71,8 @@ fn data_word(k: u8) -> &'static [u8]
 }
 
 /// The place of a word in its stack, where it has no name of its own, or the address of a cell.
-pub(crate) fn node_part_index(part: NodePart) -> Option<u64>
-    ensures { result ≡ node_part_index part }
+pub(crate) fn stack_place_or_cell_address(part: NodePart) -> Option<u64>
+    ensures { result ≡ stack_place_or_cell_address part }
 {
     match part {
         NodePart::Data(k) => place_from(k, 2),
@@ -88,7 +88,7 @@ pub(crate) fn node_part_index(part: NodePart) -> Option<u64>
         | NodePart::Slot
         | NodePart::Wait
         | NodePart::Stop
-        | NodePart::Outside => None,
+        | NodePart::OutsideWord => None,
     }
 }
 
@@ -104,12 +104,12 @@ fn place_from(place: u8, first: u8) -> Option<u64>
 }
 
 /// A part with its word.
-pub(crate) fn value_fields(part: NodePart, word: Word18) -> [Field<'static>; 3]
-    ensures { map named_field_value result ≡ value_fields part word }
+pub(crate) fn part_word_fields(part: NodePart, word: Word18) -> [Field<'static>; 3]
+    ensures { map named_field_value result ≡ part_word_fields part word }
 {
     [
-        Field::text(b"part", node_part_word(part)),
-        optional_number(b"index", node_part_index(part)),
+        Field::text(b"part", node_part_keyword(part)),
+        optional_number(b"index", stack_place_or_cell_address(part)),
         Field::word(b"value", word),
     ]
 }

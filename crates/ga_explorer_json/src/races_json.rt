@@ -2,12 +2,12 @@
 
 ghost use Rattle.std.specs.Prelude.{◌≡◌, codes, map};
 ghost use Rattle.ga_text.specs.Output.{WritesSomeText, WritesExactly};
-ghost use Rattle.ga_race_detector.specs.Readings.{rollback_step_of};
+ghost use Rattle.ga_race_detector.specs.Readings.{step_removed_for_look};
 ghost use Rattle.ga_json.specs.Compact.{json_line};
 ghost use Rattle.ga_json.specs.FieldValues.{field_value_json};
 ghost use Rattle.ga_json.specs.Fields.{named_field_value, row_json};
 ghost use Rattle.ga_explorer_json.specs.Rows.{IsJsonLine};
-ghost use Rattle.ga_explorer_json.specs.Races.{race_json, look_race_json, race_rows, optional_node_json, races_fields, listed_races_json, IsRacesJson};
+ghost use Rattle.ga_explorer_json.specs.Races.{race_json, look_race_json, race_rows, optional_node_json, races_head_fields, listed_races_json, IsRacesJson};
 
 use crate::refusal::write_lab_refusal;
 use ga_grid::NodeId;
@@ -51,7 +51,7 @@ fn write_listed_races<W: Write>(
         readings: races.readings.as_slice(),
     };
     let count = rows.races.len() as u64 + rows.readings.len() as u64;
-    let head = races_fields(only, count, races.looks, races.quiet);
+    let head = races_head_fields(only, count, races.looks, races.quiet);
     write_report(&head, &mut rows, writer)
 }
 
@@ -83,8 +83,13 @@ impl<'r> RowCursor<'r> for RaceRows<'r> {
 }
 
 /// The named node, how many rows there are, and what bears on other races.
-fn races_fields(only: Option<NodeId>, count: u64, looks: bool, quiet: bool) -> [Field<'static>; 5]
-    ensures { map named_field_value result ≡ races_fields only count looks quiet }
+fn races_head_fields(
+    only: Option<NodeId>,
+    count: u64,
+    looks: bool,
+    quiet: bool,
+) -> [Field<'static>; 5]
+    ensures { map named_field_value result ≡ races_head_fields only count looks quiet }
 {
     [
         Field::text(b"command", b"races"),
@@ -129,7 +134,7 @@ fn race_row(race: Race) -> RowFields<'static>
 fn look_race_row(reading: LookRace) -> RowFields<'static>
     ensures { row_json result.items ≡ look_race_json reading }
 {
-    let (node, step) = rollback_step_of(&reading);
+    let (node, step) = step_removed_for_look(&reading);
     row_fields(&[
         Field::text(b"what", b"look"),
         Field::node(b"node", reading.node),
@@ -146,8 +151,8 @@ fn look_race_row(reading: LookRace) -> RowFields<'static>
 }
 
 /// The step that is taken back for a look to read the other word.
-fn rollback_step_of(reading: &LookRace) -> (NodeId, u32)
-    ensures { result ≡ rollback_step_of reading.now }
+fn step_removed_for_look(reading: &LookRace) -> (NodeId, u32)
+    ensures { result ≡ step_removed_for_look reading.now }
 {
     if reading.is_look_first {
         (reading.node, reading.step)

@@ -4,11 +4,11 @@ ghost use Rattle.std.specs.Prelude.{◌≡◌};
 ghost use Rattle.ga_text.specs.Output.{WritesExactly};
 ghost use Rattle.ga_json.specs.Compact.{json_line};
 ghost use Rattle.ga_json.specs.Fields.{row_json};
-ghost use Rattle.ga_explorer_json.specs.Readings.{memory_json, memory_word_json, count_json, counts_json};
+ghost use Rattle.ga_explorer_json.specs.Readings.{address_word_json, memory_word_json, event_counts_json, history_counts_json};
 
 use ga_grid::NodeId;
 use ga_json::{Field, write_object};
-use ga_lab::{EventCounts, Lab};
+use ga_lab::{EventCountsAndLimit, Lab};
 use ga_text::{WriteResult, Writer};
 use ga_word::Word18;
 use std::io::Write;
@@ -33,8 +33,8 @@ pub fn write_memory_json<W: Write>(
 ///
 /// # Errors
 /// A write failed.
-pub fn write_counts_json<W: Write>(lab: &Lab, writer: &mut Writer<'_, W>) -> WriteResult
-    ensures { WritesExactly result (json_line (counts_json lab.now)) W.contents writer.old writer.new }
+pub fn write_event_counts_json<W: Write>(lab: &Lab, writer: &mut Writer<'_, W>) -> WriteResult
+    ensures { WritesExactly result (json_line (history_counts_json lab.now)) W.contents writer.old writer.new }
 {
     let counts = lab.counts();
     write_object(&count_fields(counts), writer)
@@ -42,7 +42,7 @@ pub fn write_counts_json<W: Write>(lab: &Lab, writer: &mut Writer<'_, W>) -> Wri
 
 /// An address of a node's memory, and the word there.
 fn memory_fields(node: NodeId, address: u8, word: Word18) -> [Field<'static>; 4]
-    ensures { row_json result ≡ memory_json node address word }
+    ensures { row_json result ≡ address_word_json node address word }
 {
     [
         Field::text(b"command", b"mem"),
@@ -53,8 +53,8 @@ fn memory_fields(node: NodeId, address: u8, word: Word18) -> [Field<'static>; 4]
 }
 
 /// How many events are kept, how many were made, and how many may be kept.
-fn count_fields(counts: EventCounts) -> [Field<'static>; 4]
-    ensures { row_json result ≡ count_json counts.kept counts.made counts.limit }
+fn count_fields(counts: EventCountsAndLimit) -> [Field<'static>; 4]
+    ensures { row_json result ≡ event_counts_json counts.kept counts.made counts.limit }
 {
     [
         Field::text(b"command", b"count"),

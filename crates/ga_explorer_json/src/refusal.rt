@@ -4,7 +4,7 @@ ghost use Rattle.std.specs.Prelude.{◌≡◌};
 ghost use Rattle.ga_text.specs.Output.{WritesExactly};
 ghost use Rattle.ga_json.specs.Compact.{json_line};
 ghost use Rattle.ga_json.specs.Fields.{row_json};
-ghost use Rattle.ga_explorer_json.specs.Refusals.{refusal_json, fault_code, fault_word, fault_hint, lab_refusal_json, step_refusal_json};
+ghost use Rattle.ga_explorer_json.specs.Refusals.{refusal_json, lab_fault_code, lab_fault_keyword, lab_fault_hint, lab_refusal_json, refusal_json_about_step};
 
 use crate::bytes::hint_of_refusal;
 use ga_display::{RefusalWording, advised_step_refusal};
@@ -55,9 +55,9 @@ pub(crate) fn write_lab_refusal<W: Write>(
 {
     write_refusal(
         command,
-        fault_code(fault),
-        fault_word(fault),
-        fault_hint(fault),
+        lab_fault_code(fault),
+        lab_fault_keyword(fault),
+        lab_fault_hint(fault),
         writer,
     )
 }
@@ -73,23 +73,29 @@ pub(crate) fn write_step_refusal<W: Write>(
     count: u32,
     writer: &mut Writer<'_, W>,
 ) -> WriteResult
-    ensures { WritesExactly result (json_line (step_refusal_json command.now node count fault)) W.contents writer.old writer.new }
+    ensures { WritesExactly result (json_line (refusal_json_about_step command.now node count fault)) W.contents writer.old writer.new }
 {
     let line = advised_step_refusal(fault, node, count);
     let hint = hint_of_refusal(line.as_slice());
-    write_refusal(command, fault_code(fault), fault_word(fault), hint, writer)
+    write_refusal(
+        command,
+        lab_fault_code(fault),
+        lab_fault_keyword(fault),
+        hint,
+        writer,
+    )
 }
 
 /// The hint of a refusal.
-pub(crate) fn fault_hint(fault: LabFault) -> &'static [u8]
-    ensures { result.now ≡ fault_hint fault }
+pub(crate) fn lab_fault_hint(fault: LabFault) -> &'static [u8]
+    ensures { result.now ≡ lab_fault_hint fault }
 {
-    hint_of_refusal(RefusalWording::Advised.refusal(fault))
+    hint_of_refusal(RefusalWording::Advised.refusal_in_wording(fault))
 }
 
 /// The number of a refusal.
-fn fault_code(fault: LabFault) -> u64
-    ensures { result ≡ fault_code fault }
+fn lab_fault_code(fault: LabFault) -> u64
+    ensures { result ≡ lab_fault_code fault }
 {
     match fault {
         LabFault::Waiting => 1,
@@ -98,13 +104,13 @@ fn fault_code(fault: LabFault) -> u64
         LabFault::Memory => 4,
         LabFault::Empty => 5,
         LabFault::NoStep => 6,
-        LabFault::Spent => 7,
+        LabFault::EventNumbersSpent => 7,
     }
 }
 
 /// The word of a refusal.
-pub(crate) fn fault_word(fault: LabFault) -> &'static [u8]
-    ensures { result.now ≡ fault_word fault }
+pub(crate) fn lab_fault_keyword(fault: LabFault) -> &'static [u8]
+    ensures { result.now ≡ lab_fault_keyword fault }
 {
     match fault {
         LabFault::Waiting => b"waiting",
@@ -113,6 +119,6 @@ pub(crate) fn fault_word(fault: LabFault) -> &'static [u8]
         LabFault::Memory => b"memory",
         LabFault::Empty => b"empty",
         LabFault::NoStep => b"nostep",
-        LabFault::Spent => b"spent",
+        LabFault::EventNumbersSpent => b"spent",
     }
 }

@@ -2,15 +2,15 @@
 
 ghost use Rattle.std.specs.Prelude.{◌≡◌, [], Some, IfOk, option_map, slice_get};
 ghost use Rattle.ga_text.specs.Lines.{Bytes};
-ghost use Rattle.ga_text.specs.Output.{IsTextWritten, WritesExactly, WritesSomeText};
+ghost use Rattle.ga_text.specs.Output.{IsTextWrittenOrPending, WritesExactly, WritesSomeText};
 ghost use Rattle.ga_explorer.specs.inner.{explorer_state};
 ghost use Rattle.ga_explorer_json.specs.Session.{text_after_comma, is_json_refusal};
-ghost use Rattle.ga_explorer_json.specs.inner.{turn_after, Responds};
+ghost use Rattle.ga_explorer_json.specs.inner.{json_action_after_answer, RespondsToLineRequest};
 
 use crate::answers::{LineRequest, answer_request, line_request};
-use crate::bytes::text_after_byte;
+use crate::bytes::text_after_first_such_byte;
 use crate::noted_refusal::note_refusal;
-use ga_console::{Command, LineAction, Responder};
+use ga_console::{DebuggerCommand, LineAction, Responder};
 use ga_debug_info::DebugInfo;
 use ga_explorer::Explorer;
 use ga_lab::Lab;
@@ -48,11 +48,11 @@ impl JsonExplorer {
 impl Responder for JsonExplorer {
     ghost use Rattle.std.specs.Prelude.{false, None, []};
     ghost use Rattle.ga_explorer.specs.inner.{explorer_state};
-    ghost use Rattle.ga_explorer_json.specs.inner.{GoesOnFor, EndsFor};
+    ghost use Rattle.ga_explorer_json.specs.inner.{JsonSessionGoesOn, JsonSessionEnds};
 
-    ghost answers = { λ p line answer new. GoesOnFor p.is_strict (explorer_state p.lab p.notes) line answer new.is_strict (explorer_state new.lab new.notes) };
+    ghost answers = { λ p line answer new. JsonSessionGoesOn p.is_strict (explorer_state p.lab p.notes) line answer new.is_strict (explorer_state new.lab new.notes) };
 
-    ghost refuses = { λ p line answer new. EndsFor p.is_strict (explorer_state p.lab p.notes) line answer new.is_strict (explorer_state new.lab new.notes) };
+    ghost refuses = { λ p line answer new. JsonSessionEnds p.is_strict (explorer_state p.lab p.notes) line answer new.is_strict (explorer_state new.lab new.notes) };
 
     ghost begin = { λ s. record { lab = s; notes = None; is_strict = false; refusal = record { items = [] } } };
 
@@ -87,10 +87,10 @@ impl Responder for JsonExplorer {
         )
     }
 
-    fn obey<W: Write>(
+    fn obey_debugger_command<W: Write>(
         &mut self,
         alloc: Global,
-        command: Command,
+        command: DebuggerCommand,
         writer: &mut Writer<'_, W>,
     ) -> Result<LineAction, WriteError> {
         respond(
@@ -120,7 +120,7 @@ fn respond<W: Write>(
     refusal: &mut LineBuffer,
     writer: &mut Writer<'_, W>,
 ) -> Result<LineAction, WriteError>
-    ensures { WritesSomeText result (Responds is_strict (explorer_state lab.old notes.now) line.now request (explorer_state lab.new notes.now) result)
+    ensures { WritesSomeText result (RespondsToLineRequest is_strict (explorer_state lab.old notes.now) line.now request (explorer_state lab.new notes.now) result)
         W.contents writer.old writer.new }
 {
     let mut long = Vec::new(alloc);
@@ -139,9 +139,9 @@ fn pass_on<W: Write>(
     refusal: &mut LineBuffer,
     writer: &mut Writer<'_, W>,
 ) -> Result<LineAction, WriteError>
-    ensures { (answer : Bytes) → IsTextWritten (Some held.old.stream.now.items) [] answer held.old.pending.items →
+    ensures { (answer : Bytes) → IsTextWrittenOrPending (Some held.old.stream.now.items) [] answer held.old.pending.items →
         WritesExactly result answer W.contents writer.old writer.new
-        × IfOk result (λ turn. turn ≡ turn_after is_strict answer) }
+        × IfOk result (λ turn. turn ≡ json_action_after_answer is_strict answer) }
 {
     if held.stream.is_empty() {
         return write_answer(held.pending.as_slice(), is_strict, refusal, writer);
@@ -161,7 +161,7 @@ fn write_answer<W: Write>(
     writer: &mut Writer<'_, W>,
 ) -> Result<LineAction, WriteError>
     ensures written { WritesExactly result answer.now W.contents writer.old writer.new }
-    ensures turn { IfOk result (λ turn. turn ≡ turn_after is_strict answer.now) }
+    ensures turn { IfOk result (λ turn. turn ≡ json_action_after_answer is_strict answer.now) }
 {
     writer.write_blocks(answer)?;
     if !(is_strict && is_json_refusal(answer)) {
@@ -182,5 +182,5 @@ fn is_json_refusal(answer: &[u8]) -> bool
 fn text_after_comma(text: &[u8]) -> &[u8]
     ensures { result.now ≡ text_after_comma text.now }
 {
-    text_after_byte(b',', text)
+    text_after_first_such_byte(b',', text)
 }

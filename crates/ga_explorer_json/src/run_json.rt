@@ -9,7 +9,7 @@ ghost use Rattle.ga_scheduler.specs.declared.running.RunEnd.TheVariants.{Refused
 ghost use Rattle.ga_explorer_json.specs.Changes.{held_condition_fields, run_end_fields, run_json};
 
 use crate::event::push_made_event;
-use crate::refusal::{fault_hint, fault_word};
+use crate::refusal::{lab_fault_hint, lab_fault_keyword};
 use crate::row::push_fields;
 use ga_json::{Field, MAX_FIELDS, RowFields, row_fields, write_object};
 use ga_lab::LabFault;
@@ -45,11 +45,11 @@ fn push_run_end(row: &mut RowFields<'static>, end: RunEnd)
     ensures { map named_field_value row.new.items ≡ map named_field_value row.old.items ++ run_end_fields end }
 {
     match end {
-        RunEnd::Reached { made, which } => {
+        RunEnd::ConditionHeld { made, which } => {
             push_fields(row, &held_condition_fields(which));
             push_made_event(row, made);
         }
-        RunEnd::Made => push_fields(row, &[Field::text(b"end", b"made")]),
+        RunEnd::MadeRequestedEvents => push_fields(row, &[Field::text(b"end", b"made")]),
         RunEnd::Quiet => push_fields(row, &[Field::text(b"end", b"quiet")]),
         RunEnd::Refused(why) => push_fields(row, &refused_fields(why)),
     }
@@ -60,8 +60,8 @@ fn refused_fields(why: LabFault) -> [Field<'static>; 2]
     ensures { map named_field_value result ≡ run_end_fields (Refused why) }
 {
     [
-        Field::text(b"end", fault_word(why)),
-        Field::text(b"hint", fault_hint(why)),
+        Field::text(b"end", lab_fault_keyword(why)),
+        Field::text(b"hint", lab_fault_hint(why)),
     ]
 }
 

@@ -3,20 +3,20 @@
 ghost use Rattle.std.specs.Prelude.{◌≡◌, ◌-◌, ◌++◌, Some};
 ghost use Rattle.ga_text.specs.Lines.{Bytes};
 ghost use Rattle.ga_text.specs.Input.{IsWithinInputLimit, input_limit};
-ghost use Rattle.ga_text.specs.Output.{IsSameStream, IsTextWritten, ReadsAndWrites, WritesExactly};
+ghost use Rattle.ga_text.specs.Output.{IsSameStream, IsTextWrittenOrPending, ReadsAndWrites, WritesExactly};
 ghost use Rattle.ga_json.specs.Compact.{json_line};
 ghost use Rattle.ga_json.specs.Fields.{row_json};
-ghost use Rattle.ga_console.specs.Session.{ServesCommandsBy, IsWholeOrPrefixOnWriteError};
-ghost use Rattle.ga_explorer.specs.Opening.{image_text_of};
+ghost use Rattle.ga_console.specs.Session.{ServesCommandsWithLimitRefusal, IsWholeOrPrefixOnWriteError};
+ghost use Rattle.ga_explorer.specs.Opening.{optional_image_text};
 ghost use Rattle.ga_explorer.specs.inner.{explorer_state};
-ghost use Rattle.ga_explorer_json.specs.Session.{ready_json, limit_refusal_line, AnswersJsonAndContinues, AnswersJsonAndEndsSession, RunsJsonExplorer};
+ghost use Rattle.ga_explorer_json.specs.Session.{session_ready_json, long_input_refusal_line, AnswersJsonAndContinues, AnswersJsonAndEndsSession, RunsJsonExplorer};
 
 use crate::responder::JsonExplorer;
-use ga_check_report::open_for_json_output;
-use ga_console::{CommandsEnd, Status, serve_commands_by};
-use ga_explorer::end_session;
+use ga_check_report::open_lab_with_json_refusals;
+use ga_console::{CommandsEnd, Status, serve_commands_with_limit_refusal};
+use ga_explorer::report_session_end_status;
 use ga_json::{Field, write_object};
-use ga_text::{Input, WriteError, WriteResult, Writer};
+use ga_text::{InputBuffer, WriteError, WriteResult, Writer};
 use std::alloc::Global;
 use std::io::{Read, Write};
 
@@ -33,16 +33,18 @@ pub fn explore_json<R: Read, W: Write, E: Write>(
     is_strict: bool,
 ) -> Status
     // Where the streams tell their bytes: what was read, and what was written for it by the status.
-    ensures { ReadsAndWrites (λ read rest text. RunsJsonExplorer is_strict file.now (image_text_of chip) limit read rest text result)
+    ensures { ReadsAndWrites (λ read rest text. RunsJsonExplorer is_strict file.now (optional_image_text chip) limit read rest text result)
         (R.remaining reader.old) (R.remaining reader.new) (W.contents writer.old) (W.contents writer.new) }
 {
-    let mut input = Input::new();
-    match open_for_json_output(alloc, &mut input, reader, writer, errors, file, chip, limit) {
+    let mut input = InputBuffer::new();
+    match open_lab_with_json_refusals(
+        alloc, &mut input, reader, writer, errors, file, chip, limit,
+    ) {
         Ok(begun) => {
             let mut said = Writer::new(writer);
             let mut session = JsonExplorer::new(begun, is_strict);
             let ending = serve_objects(alloc, &mut input, reader, &mut said, &mut session);
-            end_session(errors, ending, is_strict, &session.refusal)
+            report_session_end_status(errors, ending, is_strict, &session.refusal)
         }
         Err(status) => status,
     }
@@ -54,7 +56,7 @@ pub fn explore_json<R: Read, W: Write, E: Write>(
 /// A write failed.
 fn serve_objects<R: Read, W: Write>(
     alloc: Global,
-    input: &mut Input,
+    input: &mut InputBuffer,
     reader: &mut R,
     writer: &mut Writer<'_, W>,
     session: &mut JsonExplorer,
@@ -62,16 +64,16 @@ fn serve_objects<R: Read, W: Write>(
     requires { IsWithinInputLimit input.old }
     ensures same { IsSameStream writer.old writer.new }
     ensures serves { (left before said : Bytes) → R.remaining reader.old ≡ Some left →
-        IsTextWritten (W.contents writer.old.stream.now) before said writer.old.pending.items →
+        IsTextWrittenOrPending (W.contents writer.old.stream.now) before said writer.old.pending.items →
         (read rest text sent : Bytes)
         × (input.old.bytes ++ left ≡ read ++ rest) × (R.remaining reader.new ≡ Some rest)
         × (W.contents writer.new.stream.now ≡ Some (before ++ sent))
-        × ServesCommandsBy limit_refusal_line (AnswersJsonAndContinues session.old.is_strict) (AnswersJsonAndEndsSession session.old.is_strict)
+        × ServesCommandsWithLimitRefusal long_input_refusal_line (AnswersJsonAndContinues session.old.is_strict) (AnswersJsonAndEndsSession session.old.is_strict)
         (input_limit - input.old.taken) (explorer_state session.old.lab session.old.notes) read rest text (explorer_state session.new.lab session.new.notes) result
-        × IsWholeOrPrefixOnWriteError result (said ++ (json_line ready_json ++ text)) sent }
+        × IsWholeOrPrefixOnWriteError result (said ++ (json_line session_ready_json ++ text)) sent }
 {
     write_ready(writer)?;
-    serve_commands_by(limit_refusal(), alloc, input, reader, writer, session)
+    serve_commands_with_limit_refusal(limit_refusal(), alloc, input, reader, writer, session)
 }
 
 /// Writes that the session begins.
@@ -79,21 +81,21 @@ fn serve_objects<R: Read, W: Write>(
 /// # Errors
 /// A write failed.
 fn write_ready<W: Write>(writer: &mut Writer<'_, W>) -> WriteResult
-    ensures { WritesExactly result (json_line ready_json) W.contents writer.old writer.new }
+    ensures { WritesExactly result (json_line session_ready_json) W.contents writer.old writer.new }
 {
     write_object(&ready_fields(), writer)
 }
 
 /// What begins a session.
 fn ready_fields() -> [Field<'static>; 1]
-    ensures { row_json result ≡ ready_json }
+    ensures { row_json result ≡ session_ready_json }
 {
     [Field::text(b"answer", b"ready")]
 }
 
 /// The object for an input past its bound.
 fn limit_refusal() -> &'static [u8]
-    ensures { result.now ≡ limit_refusal_line }
+    ensures { result.now ≡ long_input_refusal_line }
 {
     b"{\"command\":null,\"refused\":33,\"why\":\"input\"}\n"
 }

@@ -6,18 +6,19 @@ ghost use Rattle.ga_grid.specs.declared.node_id.NodeId.{NodeId};
 ghost use Rattle.ga_json.specs.Names.{is_field_name};
 ghost use Rattle.ga_json.specs.Fields.{named_field_value};
 ghost use Rattle.ga_explorer_text.specs.SourceSuffix.{slot_before_step};
-ghost use Rattle.ga_explorer_json.specs.Source.{source_word, word_line_json, word_column_json, source_text_json, source_fields, step_source_fields, value_source_fields, is_never_set};
-ghost use Rattle.ga_explorer_json.specs.inner.{fields_of_source};
+ghost use Rattle.ga_explorer_json.specs.Source.{source_word, source_word_line_json, source_word_column_json, source_text_json, source_fields, step_source_fields, value_source_fields, is_value_never_set};
+ghost use Rattle.ga_explorer_json.specs.inner.{fields_of_step_source};
 
 use crate::whence_json::walk_to;
 use ga_debug_info::{DebugInfo, SlotWord};
 use ga_explorer_text::{
-    cell_note_text, cell_of_node_part, given_place_of_part, slot_note_text, walked_slot,
+    cell_note_text, cell_of_node_part, load_place_of_node_part, slot_after_walk_back,
+    slot_note_text,
 };
 use ga_grid::NodeId;
 use ga_json::{Field, joined_text_field};
 use ga_lab::{Lab, NodeWalk};
-use ga_provenance::{Value, fetched_cell_at};
+use ga_provenance::{PartValue, fetched_cell_at};
 
 /// How many fields the source of a step has.
 pub(crate) const SOURCE_FIELDS: usize = 3;
@@ -29,12 +30,12 @@ const FETCH: usize = 4;
 const MARK_BYTES: usize = 3;
 
 /// Whether a value was loaded that neither image nor source gave.
-pub(crate) fn is_never_set(notes: &Option<DebugInfo>, value: Value) -> bool
-    ensures { result ≡ is_never_set notes.now value }
+pub(crate) fn is_value_never_set(notes: &Option<DebugInfo>, value: PartValue) -> bool
+    ensures { result ≡ is_value_never_set notes.now value }
 {
     match notes {
         Some(notes) => {
-            value.step == 0 && !notes.is_word_given(value.node, given_place_of_part(value.part))
+            value.step == 0 && !notes.is_word_given(value.node, load_place_of_node_part(value.part))
         }
         None => false,
     }
@@ -71,7 +72,7 @@ pub(crate) struct StepSource<'n> {
 
 /// The source of a step as fields: the line and the column of its word, and the text.
 pub(crate) fn source_fields(source: StepSource<'_>) -> [Field<'_>; SOURCE_FIELDS]
-    ensures { map named_field_value result ≡ fields_of_source source.entry }
+    ensures { map named_field_value result ≡ fields_of_step_source source.entry }
 {
     [
         line_field(b"line", source.word),
@@ -83,7 +84,7 @@ pub(crate) fn source_fields(source: StepSource<'_>) -> [Field<'_>; SOURCE_FIELDS
 /// The line of a word of the source, with a name.
 pub(crate) fn line_field(name: &'static [u8], word: Option<SlotWord>) -> Field<'static>
     requires { IsTrue (is_field_name name.now) }
-    ensures { named_field_value result ≡ (name.now, word_line_json word) }
+    ensures { named_field_value result ≡ (name.now, source_word_line_json word) }
 {
     match word {
         Some(word) => Field::number(name, u64::from(word.line)),
@@ -94,7 +95,7 @@ pub(crate) fn line_field(name: &'static [u8], word: Option<SlotWord>) -> Field<'
 /// The column of a word of the source, with a name.
 pub(crate) fn column_field(name: &'static [u8], word: Option<SlotWord>) -> Field<'static>
     requires { IsTrue (is_field_name name.now) }
-    ensures { named_field_value result ≡ (name.now, word_column_json word) }
+    ensures { named_field_value result ≡ (name.now, source_word_column_json word) }
 {
     match word {
         Some(word) => Field::number(name, u64::from(word.column)),
@@ -129,7 +130,7 @@ fn cell_source<'n>(
     cell: Option<u8>,
     slot: usize,
 ) -> StepSource<'n>
-    ensures { fields_of_source result ≡ source_fields notes.now node cell slot }
+    ensures { fields_of_step_source result ≡ source_fields notes.now node cell slot }
 {
     StepSource {
         word: source_word(notes, node, cell, slot),
@@ -161,7 +162,7 @@ fn slot_before_step<'l>(
 {
     let place = step.saturating_sub(1).min(lab.steps(node));
     let walk = walk_to(lab, near, at, node, place);
-    walked_slot(lab, node, place, &walk) as usize
+    slot_after_walk_back(lab, node, place, &walk) as usize
 }
 
 /// What the source has for a step: of the cell from which its instruction word was fetched, and the slot that it ran. A node is
@@ -175,7 +176,7 @@ pub(crate) fn step_source<'l, 'n>(
     step: u32,
 ) -> StepSource<'n>
     requires { near.now ≡ node_at_step lab.now at near.now.step }
-    ensures { fields_of_source result ≡ step_source_fields notes.now lab.now node step }
+    ensures { fields_of_step_source result ≡ step_source_fields notes.now lab.now node step }
 {
     if !has_source(notes) {
         return cell_source(notes, node, None, FETCH);
@@ -191,10 +192,10 @@ pub(crate) fn value_source<'l, 'n>(
     notes: &'n Option<DebugInfo>,
     near: &NodeWalk<'l>,
     at: NodeId,
-    value: Value,
+    value: PartValue,
 ) -> StepSource<'n>
     requires { near.now ≡ node_at_step lab.now at near.now.step }
-    ensures { fields_of_source result ≡ value_source_fields notes.now lab.now value }
+    ensures { fields_of_step_source result ≡ value_source_fields notes.now lab.now value }
 {
     if value.step == 0 {
         cell_source(notes, value.node, cell_of_node_part(value.part), FETCH)

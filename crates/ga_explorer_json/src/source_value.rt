@@ -4,24 +4,27 @@ ghost use Rattle.std.specs.Prelude.{◌≡◌, ◌≤◌, ◌+◌, ◌++◌, map
 ghost use Rattle.arrayvec.specs.ArrayVec.{array_vec_len};
 ghost use Rattle.ga_lab.specs.Machine.{node_at_step};
 ghost use Rattle.ga_json.specs.Fields.{named_field_value};
-ghost use Rattle.ga_explorer_json.specs.Events.{own_event_fields, pass_fields, action_fields};
+ghost use Rattle.ga_explorer_json.specs.Events.{own_event_fields, passed_word_fields, event_action_fields};
 ghost use Rattle.ga_explorer_json.specs.Whence.{value_origin_fields};
-ghost use Rattle.ga_explorer_json.specs.Because.{as_source, source_front_fields, source_word_fields, source_value_fields};
-ghost use Rattle.ga_explorer_json.specs.inner.{fields_of_source};
+ghost use Rattle.ga_explorer_json.specs.Because.{source_prefixed_fields, value_node_and_step_fields, tested_value_word_fields, tested_value_provenance_fields};
+ghost use Rattle.ga_explorer_json.specs.inner.{fields_of_step_source};
 
 use crate::event::{MAX_ACTION_FIELDS, opcode_name};
-use crate::part::{node_part_index, node_part_word, number_unless_zero, optional_number};
+use crate::part::{
+    json_number_unless_zero, node_part_keyword, optional_number, stack_place_or_cell_address,
+};
 use crate::row::push_fields;
 use crate::source::{
-    SOURCE_FIELDS, StepSource, column_field, is_never_set, line_field, text_field, value_source,
+    SOURCE_FIELDS, StepSource, column_field, is_value_never_set, line_field, text_field,
+    value_source,
 };
-use crate::whence_json::value_a;
+use crate::whence_json::register_a_made_with_value;
 use ga_debug_info::DebugInfo;
 use ga_grid::NodeId;
 use ga_json::{Field, MAX_FIELDS, RowFields};
-use ga_lab::{Lab, Made, NodeWalk};
+use ga_lab::{Lab, MadeEvent, NodeWalk};
 use ga_node::OwnEventKind;
-use ga_provenance::Value;
+use ga_provenance::PartValue;
 use ga_word::Word18;
 
 /// The most fields of the step that made a value.
@@ -33,53 +36,53 @@ pub(crate) fn push_source_value<'l, 'n>(
     lab: &'l Lab,
     notes: &'n Option<DebugInfo>,
     walk: &NodeWalk<'l>,
-    value: Value,
+    value: PartValue,
     word: Word18,
     a: Word18,
 )
     requires room { array_vec_len row.old + MAX_SOURCE_VALUE_FIELDS ≤ MAX_FIELDS }
     requires walk { walk.now ≡ node_at_step lab.now value.node walk.now.step }
-    ensures { map named_field_value row.new.items ≡ map named_field_value row.old.items ++ source_value_fields notes.now lab.now value word a }
+    ensures { map named_field_value row.new.items ≡ map named_field_value row.old.items ++ tested_value_provenance_fields notes.now lab.now value word a }
 {
-    push_fields(row, &source_front_fields(value));
+    push_fields(row, &value_node_and_step_fields(value));
     push_source_made(row, lab, value);
-    push_fields(row, &source_word_fields(lab, notes, value, word, a));
+    push_fields(row, &tested_value_word_fields(lab, notes, value, word, a));
     let source = value_source(lab, notes, walk, value.node, value);
     push_fields(row, &source_place_fields(source));
 }
 
 /// Where a value was made.
-fn source_front_fields(value: Value) -> [Field<'static>; 2]
-    ensures { map named_field_value result ≡ as_source (source_front_fields value) }
+fn value_node_and_step_fields(value: PartValue) -> [Field<'static>; 2]
+    ensures { map named_field_value result ≡ source_prefixed_fields (value_node_and_step_fields value) }
 {
     [
         Field::node(b"source_node", value.node),
-        number_unless_zero(b"source_step", value.step),
+        json_number_unless_zero(b"source_step", value.step),
     ]
 }
 
 /// The part and the word of a value, A where its step made both, and whether nobody set it.
-fn source_word_fields(
+fn tested_value_word_fields(
     lab: &Lab,
     notes: &Option<DebugInfo>,
-    value: Value,
+    value: PartValue,
     word: Word18,
     a: Word18,
 ) -> [Field<'static>; 5]
-    ensures { map named_field_value result ≡ as_source (source_word_fields notes.now lab.now value word a) }
+    ensures { map named_field_value result ≡ source_prefixed_fields (tested_value_word_fields notes.now lab.now value word a) }
 {
     [
-        Field::text(b"source_part", node_part_word(value.part)),
-        optional_number(b"source_index", node_part_index(value.part)),
+        Field::text(b"source_part", node_part_keyword(value.part)),
+        optional_number(b"source_index", stack_place_or_cell_address(value.part)),
         Field::word(b"source_value", word),
-        optional_number(b"source_a", value_a(lab, value, a)),
-        Field::flag(b"source_never_set", is_never_set(notes, value)),
+        optional_number(b"source_a", register_a_made_with_value(lab, value, a)),
+        Field::flag(b"source_never_set", is_value_never_set(notes, value)),
     ]
 }
 
 /// What the source has for a value.
 fn source_place_fields(source: StepSource<'_>) -> [Field<'_>; SOURCE_FIELDS]
-    ensures { map named_field_value result ≡ as_source (fields_of_source source.entry) }
+    ensures { map named_field_value result ≡ source_prefixed_fields (fields_of_step_source source.entry) }
 {
     [
         line_field(b"source_line", source.word),
@@ -89,9 +92,9 @@ fn source_place_fields(source: StepSource<'_>) -> [Field<'_>; SOURCE_FIELDS]
 }
 
 /// Adds what the step of a value did, or that the value was loaded.
-fn push_source_made<'n>(row: &mut RowFields<'n>, lab: &Lab, value: Value)
+fn push_source_made<'n>(row: &mut RowFields<'n>, lab: &Lab, value: PartValue)
     requires { array_vec_len row.old + MAX_ACTION_FIELDS ≤ MAX_FIELDS }
-    ensures fields { map named_field_value row.new.items ≡ map named_field_value row.old.items ++ as_source (value_origin_fields lab.now value) }
+    ensures fields { map named_field_value row.new.items ≡ map named_field_value row.old.items ++ source_prefixed_fields (value_origin_fields lab.now value) }
     ensures len { array_vec_len row.new ≤ array_vec_len row.old + MAX_ACTION_FIELDS }
 {
     if value.step == 0 {
@@ -102,14 +105,14 @@ fn push_source_made<'n>(row: &mut RowFields<'n>, lab: &Lab, value: Value)
 }
 
 /// Adds what a step did.
-fn push_source_action<'n>(row: &mut RowFields<'n>, made: Made)
+fn push_source_action<'n>(row: &mut RowFields<'n>, made: MadeEvent)
     requires { array_vec_len row.old + MAX_ACTION_FIELDS ≤ MAX_FIELDS }
-    ensures fields { map named_field_value row.new.items ≡ map named_field_value row.old.items ++ as_source (action_fields made) }
+    ensures fields { map named_field_value row.new.items ≡ map named_field_value row.old.items ++ source_prefixed_fields (event_action_fields made) }
     ensures len { array_vec_len row.new ≤ array_vec_len row.old + MAX_ACTION_FIELDS }
 {
     match made {
-        Made::Own { kind, .. } => push_source_event(row, kind),
-        Made::Pass {
+        MadeEvent::Own { kind, .. } => push_source_event(row, kind),
+        MadeEvent::Pass {
             writer,
             writer_step,
             reader,
@@ -130,7 +133,7 @@ fn source_pass_fields(
     reader_step: u32,
     word: Word18,
 ) -> [Field<'static>; MAX_ACTION_FIELDS]
-    ensures { map named_field_value result ≡ as_source (pass_fields writer writer_step reader reader_step word) }
+    ensures { map named_field_value result ≡ source_prefixed_fields (passed_word_fields writer writer_step reader reader_step word) }
 {
     [
         Field::text(b"source_what", b"pass"),
@@ -145,7 +148,7 @@ fn source_pass_fields(
 /// Adds what an event of a node's own was.
 fn push_source_event<'n>(row: &mut RowFields<'n>, kind: OwnEventKind)
     requires { array_vec_len row.old + 2 ≤ MAX_FIELDS }
-    ensures fields { map named_field_value row.new.items ≡ map named_field_value row.old.items ++ as_source (own_event_fields kind) }
+    ensures fields { map named_field_value row.new.items ≡ map named_field_value row.old.items ++ source_prefixed_fields (own_event_fields kind) }
     ensures len { array_vec_len row.new ≤ array_vec_len row.old + 2 }
 {
     match kind {

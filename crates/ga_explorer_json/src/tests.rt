@@ -1,16 +1,16 @@
 //! Each query once, on programs of examples/. What is wanted is what docs/TUTORIAL.md and docs/FINDING.md have of the same query.
 
 use crate::{
-    write_at_json, write_back_until_json, write_because_json, write_cell_writes_json,
-    write_counts_json, write_effects_json, write_link_words_json, write_memory_json,
-    write_node_json, write_races_json, write_rewind_json, write_run_json, write_step_json,
-    write_undo_json, write_whence_json, write_who_json,
+    write_back_until_json, write_cell_writes_json, write_decisions_json, write_event_counts_json,
+    write_link_words_json, write_memory_json, write_node_json, write_provenance_json,
+    write_races_json, write_rewind_json, write_rollback_effects_json, write_run_json,
+    write_step_json, write_steps_around_json, write_undo_json, write_waiting_nodes_json,
 };
 use ga_event::NodePart;
 use ga_grid::NodeId;
 use ga_lab::Lab;
 use ga_scheduler::{Condition, Schedule, run_schedule};
-use ga_source::assemble;
+use ga_source::assemble_source_text;
 use ga_text::Writer;
 use std::alloc::Global;
 use std::process::Abort;
@@ -54,11 +54,11 @@ fn lab_after_run(
     schedule: Schedule,
     most: u64,
 ) -> Result<Lab, Fail> {
-    let Ok(assembled) = assemble(alloc, source) else {
+    let Ok(assembled) = assemble_source_text(alloc, source) else {
         panic!(rt; "assembles");
     };
     let mut lab = Lab::new(alloc, assembled.chip, 10_000)?;
-    let _ran = run_schedule(&mut lab, schedule, most, &[Condition::Stops]);
+    let _ran = run_schedule(&mut lab, schedule, most, &[Condition::AnyNodeStops]);
     Ok(lab)
 }
 
@@ -70,7 +70,7 @@ fn assert_text(rt: &impl Abort, writer: &Writer<'_, Vec<u8>>, wanted: &str) {
 #[test]
 fn words_of_a_link(rt: HostRuntime) -> Result<(), Fail> {
     let alloc = rt.alloc();
-    let lab = lab_after_run(&rt, alloc, TRANSFER, Schedule::greedy(), 1000)?;
+    let lab = lab_after_run(&rt, alloc, TRANSFER, Schedule::greedy_schedule(), 1000)?;
     let mut stream = Vec::new(alloc);
     let mut writer = Writer::new(&mut stream);
     let (node, other) = (NodeId::new(0), NodeId::new(1));
@@ -87,12 +87,14 @@ fn words_of_a_link(rt: HostRuntime) -> Result<(), Fail> {
 #[test]
 fn effects_of_a_rollback(rt: HostRuntime) -> Result<(), Fail> {
     let alloc = rt.alloc();
-    let mut lab = lab_after_run(&rt, alloc, PIPELINE, Schedule::round_robin(), 1000)?;
+    let mut lab = lab_after_run(&rt, alloc, PIPELINE, Schedule::round_robin_schedule(), 1000)?;
     let mut stream = Vec::new(alloc);
     let mut writer = Writer::new(&mut stream);
     let node = NodeId::new(4);
-    assert!(rt; write_effects_json(alloc, &mut lab, &None, node, 75, &mut writer).is_ok());
-    assert!(rt; write_effects_json(alloc, &mut lab, &None, node, 1000, &mut writer).is_ok());
+    assert!(rt; write_rollback_effects_json(alloc, &mut lab, &None, node, 75, &mut writer).is_ok());
+    assert!(rt;
+        write_rollback_effects_json(alloc, &mut lab, &None, node, 1000, &mut writer).is_ok()
+    );
     assert_text(
         &rt,
         &writer,
@@ -104,7 +106,7 @@ fn effects_of_a_rollback(rt: HostRuntime) -> Result<(), Fail> {
 #[test]
 fn writes_of_a_cell(rt: HostRuntime) -> Result<(), Fail> {
     let alloc = rt.alloc();
-    let lab = lab_after_run(&rt, alloc, STORES, Schedule::round_robin(), 194)?;
+    let lab = lab_after_run(&rt, alloc, STORES, Schedule::round_robin_schedule(), 194)?;
     let mut stream = Vec::new(alloc);
     let mut writer = Writer::new(&mut stream);
     let node = NodeId::new(0);
@@ -121,12 +123,12 @@ fn writes_of_a_cell(rt: HostRuntime) -> Result<(), Fail> {
 #[test]
 fn steps_around_one(rt: HostRuntime) -> Result<(), Fail> {
     let alloc = rt.alloc();
-    let lab = lab_after_run(&rt, alloc, FAULT, Schedule::round_robin(), 1000)?;
+    let lab = lab_after_run(&rt, alloc, FAULT, Schedule::round_robin_schedule(), 1000)?;
     let mut stream = Vec::new(alloc);
     let mut writer = Writer::new(&mut stream);
-    assert!(rt; write_at_json(&lab, &None, NodeId::new(0), 8, 1, &mut writer).is_ok());
-    assert!(rt; write_at_json(&lab, &None, NodeId::new(1), 10, 0, &mut writer).is_ok());
-    assert!(rt; write_at_json(&lab, &None, NodeId::new(1), 11, 3, &mut writer).is_ok());
+    assert!(rt; write_steps_around_json(&lab, &None, NodeId::new(0), 8, 1, &mut writer).is_ok());
+    assert!(rt; write_steps_around_json(&lab, &None, NodeId::new(1), 10, 0, &mut writer).is_ok());
+    assert!(rt; write_steps_around_json(&lab, &None, NodeId::new(1), 11, 3, &mut writer).is_ok());
     assert_text(
         &rt,
         &writer,
@@ -138,7 +140,13 @@ fn steps_around_one(rt: HostRuntime) -> Result<(), Fail> {
 #[test]
 fn races_of_words(rt: HostRuntime) -> Result<(), Fail> {
     let alloc = rt.alloc();
-    let mut lab = lab_after_run(&rt, alloc, FIRST_COME, Schedule::round_robin(), 1000)?;
+    let mut lab = lab_after_run(
+        &rt,
+        alloc,
+        FIRST_COME,
+        Schedule::round_robin_schedule(),
+        1000,
+    )?;
     let mut stream = Vec::new(alloc);
     let mut writer = Writer::new(&mut stream);
     assert!(rt; write_races_json(alloc, &mut lab, None, &mut writer).is_ok());
@@ -153,7 +161,7 @@ fn races_of_words(rt: HostRuntime) -> Result<(), Fail> {
 #[test]
 fn races_of_looks(rt: HostRuntime) -> Result<(), Fail> {
     let alloc = rt.alloc();
-    let mut lab = lab_after_run(&rt, alloc, LOOK, Schedule::greedy(), 1000)?;
+    let mut lab = lab_after_run(&rt, alloc, LOOK, Schedule::greedy_schedule(), 1000)?;
     let mut stream = Vec::new(alloc);
     let mut writer = Writer::new(&mut stream);
     let (node, other) = (NodeId::new(0), NodeId::new(1));
@@ -170,12 +178,12 @@ fn races_of_looks(rt: HostRuntime) -> Result<(), Fail> {
 #[test]
 fn decisions_before_a_step(rt: HostRuntime) -> Result<(), Fail> {
     let alloc = rt.alloc();
-    let lab = lab_after_run(&rt, alloc, PIPELINE, Schedule::round_robin(), 1000)?;
+    let lab = lab_after_run(&rt, alloc, PIPELINE, Schedule::round_robin_schedule(), 1000)?;
     let mut stream = Vec::new(alloc);
     let mut writer = Writer::new(&mut stream);
     let node = NodeId::new(7);
-    assert!(rt; write_because_json(&lab, &None, node, 152, 1, &mut writer).is_ok());
-    assert!(rt; write_because_json(&lab, &None, node, 153, 1, &mut writer).is_ok());
+    assert!(rt; write_decisions_json(&lab, &None, node, 152, 1, &mut writer).is_ok());
+    assert!(rt; write_decisions_json(&lab, &None, node, 153, 1, &mut writer).is_ok());
     assert_text(
         &rt,
         &writer,
@@ -187,11 +195,11 @@ fn decisions_before_a_step(rt: HostRuntime) -> Result<(), Fail> {
 #[test]
 fn nodes_that_wait(rt: HostRuntime) -> Result<(), Fail> {
     let alloc = rt.alloc();
-    let mut lab = lab_after_run(&rt, alloc, ENDED, Schedule::round_robin(), 30)?;
-    let _ran = run_schedule(&mut lab, Schedule::round_robin(), 1000, &[]);
+    let mut lab = lab_after_run(&rt, alloc, ENDED, Schedule::round_robin_schedule(), 30)?;
+    let _ran = run_schedule(&mut lab, Schedule::round_robin_schedule(), 1000, &[]);
     let mut stream = Vec::new(alloc);
     let mut writer = Writer::new(&mut stream);
-    assert!(rt; write_who_json(&lab, &mut writer).is_ok());
+    assert!(rt; write_waiting_nodes_json(&lab, &mut writer).is_ok());
     assert_text(
         &rt,
         &writer,
@@ -203,13 +211,13 @@ fn nodes_that_wait(rt: HostRuntime) -> Result<(), Fail> {
 #[test]
 fn sources_of_a_value(rt: HostRuntime) -> Result<(), Fail> {
     let alloc = rt.alloc();
-    let lab = lab_after_run(&rt, alloc, FAULT, Schedule::round_robin(), 1000)?;
+    let lab = lab_after_run(&rt, alloc, FAULT, Schedule::round_robin_schedule(), 1000)?;
     let mut stream = Vec::new(alloc);
     let mut writer = Writer::new(&mut stream);
     let (node, other) = (NodeId::new(0), NodeId::new(1));
-    assert!(rt; write_whence_json(alloc, &lab, &None, other, 10, None, 1, &mut writer).is_ok());
+    assert!(rt; write_provenance_json(alloc, &lab, &None, other, 10, None, 1, &mut writer).is_ok());
     assert!(rt;
-        write_whence_json(
+        write_provenance_json(
             alloc,
             &lab,
             &None,
@@ -221,8 +229,8 @@ fn sources_of_a_value(rt: HostRuntime) -> Result<(), Fail> {
         )
         .is_ok()
     );
-    assert!(rt; write_whence_json(alloc, &lab, &None, node, 10, None, 1, &mut writer).is_ok());
-    assert!(rt; write_whence_json(alloc, &lab, &None, other, 11, None, 1, &mut writer).is_ok());
+    assert!(rt; write_provenance_json(alloc, &lab, &None, node, 10, None, 1, &mut writer).is_ok());
+    assert!(rt; write_provenance_json(alloc, &lab, &None, other, 11, None, 1, &mut writer).is_ok());
     assert_text(
         &rt,
         &writer,
@@ -234,19 +242,21 @@ fn sources_of_a_value(rt: HostRuntime) -> Result<(), Fail> {
 #[test]
 fn a_first_program(rt: HostRuntime) -> Result<(), Fail> {
     let alloc = rt.alloc();
-    let mut lab = lab_after_run(&rt, alloc, FIRST, Schedule::greedy(), 0)?;
+    let mut lab = lab_after_run(&rt, alloc, FIRST, Schedule::greedy_schedule(), 0)?;
     let node = NodeId::new(0);
-    let until = [Condition::Steps { node, step: 5 }];
-    let ran = run_schedule(&mut lab, Schedule::greedy(), 1000, &until);
+    let until = [Condition::MakesNumberedStep { node, step: 5 }];
+    let ran = run_schedule(&mut lab, Schedule::greedy_schedule(), 1000, &until);
     let mut stream = Vec::new(alloc);
     let mut writer = Writer::new(&mut stream);
     assert!(rt; write_run_json(&ran, &mut writer).is_ok());
     assert!(rt; write_undo_json(&mut lab, &mut writer).is_ok());
     assert!(rt; write_node_json(&lab, node, &mut writer).is_ok());
     assert!(rt; write_memory_json(&lab, node, 1, &mut writer).is_ok());
-    assert!(rt; write_counts_json(&lab, &mut writer).is_ok());
+    assert!(rt; write_event_counts_json(&lab, &mut writer).is_ok());
     assert!(rt; write_step_json(&mut lab, node, &mut writer).is_ok());
-    assert!(rt; write_back_until_json(&mut lab, &[Condition::Stops], None, &mut writer).is_ok());
+    assert!(rt;
+        write_back_until_json(&mut lab, &[Condition::AnyNodeStops], None, &mut writer).is_ok()
+    );
     assert_text(
         &rt,
         &writer,
@@ -258,8 +268,13 @@ fn a_first_program(rt: HostRuntime) -> Result<(), Fail> {
 #[test]
 fn a_rollback(rt: HostRuntime) -> Result<(), Fail> {
     let alloc = rt.alloc();
-    let mut lab = lab_after_run(&rt, alloc, FAULT, Schedule::round_robin(), 0)?;
-    let ran = run_schedule(&mut lab, Schedule::round_robin(), 1000, &[Condition::Stops]);
+    let mut lab = lab_after_run(&rt, alloc, FAULT, Schedule::round_robin_schedule(), 0)?;
+    let ran = run_schedule(
+        &mut lab,
+        Schedule::round_robin_schedule(),
+        1000,
+        &[Condition::AnyNodeStops],
+    );
     let mut stream = Vec::new(alloc);
     let mut writer = Writer::new(&mut stream);
     let node = NodeId::new(0);

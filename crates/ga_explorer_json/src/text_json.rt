@@ -6,7 +6,7 @@ ghost use Rattle.ga_json.specs.Compact.{json_line};
 ghost use Rattle.ga_json.specs.Fields.{row_json};
 ghost use Rattle.ga_explorer.specs.inner.{explorer_state};
 ghost use Rattle.ga_explorer_json.specs.Rows.{IsJsonLine};
-ghost use Rattle.ga_explorer_json.specs.Texts.{text_answer_json, IsQueryText, line_refusal_json, long_line_json, syntax_json, syntax_refusal_json};
+ghost use Rattle.ga_explorer_json.specs.Texts.{text_answer_json, IsTextAnswerOfQuery, line_refusal_json, long_line_refusal_json, syntax_refusal_of_line, syntax_refusal_json};
 
 use crate::bytes::hint_of_refusal;
 use ga_debug_info::DebugInfo;
@@ -30,7 +30,7 @@ pub(crate) fn write_query_text<W: Write>(
     asked: Query,
     writer: &mut Writer<'_, W>,
 ) -> WriteResult
-    ensures said { WritesSomeText result (IsJsonLine (IsQueryText command.now (explorer_state lab.old notes.now) asked)) W.contents writer.old writer.new }
+    ensures said { WritesSomeText result (IsJsonLine (IsTextAnswerOfQuery command.now (explorer_state lab.old notes.now) asked)) W.contents writer.old writer.new }
     ensures same { lab.new ≡ lab.old }
 {
     let mut long = Vec::new(alloc);
@@ -93,7 +93,7 @@ fn line_refusal_fields<'a>(code: u64, why: &'a [u8], hint: &'a [u8]) -> [Field<'
 /// # Errors
 /// A write failed.
 pub(crate) fn write_long_line_json<W: Write>(writer: &mut Writer<'_, W>) -> WriteResult
-    ensures { WritesExactly result (json_line long_line_json) W.contents writer.old writer.new }
+    ensures { WritesExactly result (json_line long_line_refusal_json) W.contents writer.old writer.new }
 {
     write_line_refusal(
         32,
@@ -108,7 +108,7 @@ pub(crate) fn write_long_line_json<W: Write>(writer: &mut Writer<'_, W>) -> Writ
 /// # Errors
 /// A write failed.
 pub(crate) fn write_syntax_json<W: Write>(line: &[u8], writer: &mut Writer<'_, W>) -> WriteResult
-    ensures { WritesExactly result (json_line (syntax_json line.now)) W.contents writer.old writer.new }
+    ensures { WritesExactly result (json_line (syntax_refusal_of_line line.now)) W.contents writer.old writer.new }
 {
     write_syntax_refusal(command_suggestion(line), writer)
 }

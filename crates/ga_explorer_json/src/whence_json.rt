@@ -3,31 +3,32 @@
 ghost use Rattle.std.specs.Prelude.{◌≡◌, ◌≤◌, ◌<◌, ◌+◌, ◌++◌, ◌^◌, length, map, IfSome};
 ghost use Rattle.arrayvec.specs.ArrayVec.{array_vec_len};
 ghost use Rattle.ga_event.specs.Told.{count_steps};
-ghost use Rattle.ga_event.specs.Flow.{IsNodePart};
+ghost use Rattle.ga_event.specs.Flow.{IsNodePartInRange};
 ghost use Rattle.ga_lab.specs.Machine.{node_at_step};
 ghost use Rattle.ga_text.specs.Output.{WritesSomeText, WritesExactly};
 ghost use Rattle.ga_json.specs.Compact.{json_line};
 ghost use Rattle.ga_json.specs.Fields.{named_field_value, row_json};
-ghost use Rattle.ga_explorer_text.specs.Whence.{word_of_value, register_a_after_value, last_written_line};
+ghost use Rattle.ga_explorer_text.specs.Whence.{word_of_value, register_a_after_making_step, last_written_line_number};
 ghost use Rattle.ga_explorer_json.specs.Rows.{IsJsonLine};
-ghost use Rattle.ga_explorer_json.specs.Parts.{value_fields};
-ghost use Rattle.ga_explorer_json.specs.Whence.{no_value_fields, step_action_fields, value_origin_fields, multiplied_a, own_event_a, value_a, line_value_fields, provenance_line_json, provenance_line_rows, whence_fields, next_provenance_line, provenance_lines_json, no_provenance_lines_json, IsValueJson, IsWhenceJson};
+ghost use Rattle.ga_explorer_json.specs.Parts.{part_word_fields};
+ghost use Rattle.ga_explorer_json.specs.Whence.{null_part_word_fields, step_action_fields, value_origin_fields, register_a_if_made_by_multiply_step, register_a_if_made_by_own_event, register_a_made_with_value, provenance_line_value_fields, provenance_line_json, provenance_line_rows, provenance_head_fields, next_provenance_line_number, provenance_lines_json, no_provenance_lines_json, IsQueriedValueJson, IsProvenanceJson};
 
 use crate::event::{MAX_ACTION_FIELDS, push_action};
-use crate::part::{number_unless_zero, optional_number, value_fields};
+use crate::part::{json_number_unless_zero, optional_number, part_word_fields};
 use crate::refusal::{write_lab_refusal, write_step_refusal};
 use crate::row::{NoRows, push_fields};
-use crate::source::{is_never_set, source_fields, step_source, value_source};
+use crate::source::{is_value_never_set, source_fields, step_source, value_source};
 use ga_debug_info::DebugInfo;
 use ga_event::NodePart;
 use ga_explorer_text::{
-    last_written_line, provenance_lines_after, selected_value, word_after_walking_back,
+    last_written_line_number, named_or_selected_part_value, part_word_after_walk_back,
+    skip_provenance_lines,
 };
 use ga_grid::NodeId;
 use ga_json::{Field, MAX_FIELDS, RowCursor, RowFields, row_fields, write_report};
-use ga_lab::{Lab, LabFault, Made, NodeWalk};
+use ga_lab::{Lab, LabFault, MadeEvent, NodeWalk};
 use ga_node::OwnEventKind;
-use ga_provenance::{ProvenanceLine, Value, find_provenance_lines_at};
+use ga_provenance::{PartValue, ProvenanceLine, find_provenance_lines_at};
 use ga_text::{WriteResult, Writer};
 use ga_word::Word18;
 use std::alloc::Global;
@@ -50,7 +51,7 @@ struct LinesQuery<'n> {
 ///
 /// # Errors
 /// A write failed.
-pub fn write_whence_json<W: Write>(
+pub fn write_provenance_json<W: Write>(
     alloc: Global,
     lab: &Lab,
     notes: &Option<DebugInfo>,
@@ -60,21 +61,21 @@ pub fn write_whence_json<W: Write>(
     first: u32,
     writer: &mut Writer<'_, W>,
 ) -> WriteResult
-    requires { IfSome part IsNodePart }
-    ensures { WritesSomeText result (IsJsonLine (IsWhenceJson notes.now lab.now node step part first)) W.contents writer.old writer.new }
+    requires { IfSome part IsNodePartInRange }
+    ensures { WritesSomeText result (IsJsonLine (IsProvenanceJson notes.now lab.now node step part first)) W.contents writer.old writer.new }
 {
     if !lab.has_step((node, step)) {
         let count = lab.steps(node);
         return write_step_refusal(b"whence", LabFault::NoStep, node, count, writer);
     }
-    let near = lab.walk(node, step);
+    let near = lab.walk_node_from_step(node, step);
     let query = LinesQuery {
         notes,
         node,
         step,
         first,
     };
-    match selected_value(lab, &near, node, part) {
+    match named_or_selected_part_value(lab, &near, node, part) {
         Some(value) => write_lines(alloc, lab, near, query, value, writer),
         None => write_no_lines(lab, &near, query, writer),
     }
@@ -86,14 +87,14 @@ fn write_lines<'l, W: Write>(
     lab: &'l Lab,
     near: NodeWalk<'l>,
     query: LinesQuery<'_>,
-    value: Value,
+    value: PartValue,
     writer: &mut Writer<'_, W>,
 ) -> WriteResult
-    requires part { IsNodePart value.part }
+    requires part { IsNodePartInRange value.part }
     requires near { near ≡ node_at_step lab.now query.node near.step }
-    ensures { WritesSomeText result (IsJsonLine (IsValueJson query.entry.notes.now lab.now query.entry.node query.entry.step query.entry.first (Some value))) W.contents writer.old writer.new }
+    ensures { WritesSomeText result (IsJsonLine (IsQueriedValueJson query.entry.notes.now lab.now query.entry.node query.entry.step query.entry.first (Some value))) W.contents writer.old writer.new }
 {
-    let most = last_written_line(query.first);
+    let most = last_written_line_number(query.first);
     match find_provenance_lines_at(alloc, lab, &near, query.node, value, most) {
         Ok(found) => {
             let lines = found.lines.as_slice();
@@ -108,18 +109,18 @@ fn write_listed_lines<'l, W: Write>(
     lab: &'l Lab,
     near: NodeWalk<'l>,
     query: LinesQuery<'_>,
-    value: Value,
+    value: PartValue,
     lines: &[ProvenanceLine],
     is_whole: bool,
     writer: &mut Writer<'_, W>,
 ) -> WriteResult
     requires near { near ≡ node_at_step lab.now query.node near.step }
-    requires most { length lines.now ≤ last_written_line query.first }
+    requires most { length lines.now ≤ last_written_line_number query.first }
     ensures { WritesExactly result (json_line (provenance_lines_json query.entry.notes.now lab.now query.entry.node query.entry.step query.entry.first value lines.now is_whole)) W.contents writer.old writer.new }
 {
     let word = word_of_value(lab, &near, query.node, value);
-    let more = next_provenance_line(lines.len() as u64, is_whole);
-    let head = query_row(lab, &near, query, &value_fields(value.part, word), more);
+    let more = next_provenance_line_number(lines.len() as u64, is_whole);
+    let head = query_row(lab, &near, query, &part_word_fields(value.part, word), more);
     let skipped = query.first.saturating_sub(1);
     let mut rows = LineRows {
         lab,
@@ -127,7 +128,7 @@ fn write_listed_lines<'l, W: Write>(
         near,
         at: query.node,
         number: skipped,
-        rest: provenance_lines_after(lines, skipped),
+        rest: skip_provenance_lines(lines, skipped),
     };
     write_report(head.as_slice(), &mut rows, writer)
 }
@@ -142,7 +143,7 @@ fn write_no_lines<'l, W: Write>(
     requires { near.now ≡ node_at_step lab.now query.node near.now.step }
     ensures { WritesExactly result (json_line (no_provenance_lines_json query.entry.notes.now lab.now query.entry.node query.entry.step query.entry.first)) W.contents writer.old writer.new }
 {
-    let head = query_row(lab, near, query, &no_value_fields(), None);
+    let head = query_row(lab, near, query, &null_part_word_fields(), None);
     write_report(head.as_slice(), &mut NoRows, writer)
 }
 
@@ -166,11 +167,11 @@ impl<'l, 'r> RowCursor<'r> for LineRows<'l, 'r> {
         match self.rest.split_first() {
             Some((line, rest)) => {
                 let line = *line;
-                let Value { node, step, part } = line.value;
+                let PartValue { node, step, part } = line.value;
                 let place = step.min(self.lab.steps(node));
                 let walk = walk_to(self.lab, &self.near, self.at, node, place);
-                let word = word_after_walking_back(self.lab, node, place, &walk, part);
-                let a = word_after_walking_back(self.lab, node, place, &walk, NodePart::A);
+                let word = part_word_after_walk_back(self.lab, node, place, &walk, part);
+                let a = part_word_after_walk_back(self.lab, node, place, &walk, NodePart::A);
                 let row = line_row(self.lab, self.notes, &walk, self.number + 1, line, word, a);
                 self.near = walk;
                 self.at = node;
@@ -201,7 +202,7 @@ pub(crate) fn walk_to<'l>(
         walk.walk_back_to(step);
         walk
     } else {
-        lab.walk(node, step)
+        lab.walk_node_from_step(node, step)
     }
 }
 
@@ -210,21 +211,21 @@ pub(crate) fn word_of_value<'l>(
     lab: &'l Lab,
     near: &NodeWalk<'l>,
     at: NodeId,
-    value: Value,
+    value: PartValue,
 ) -> Word18
     requires { near.now ≡ node_at_step lab.now at near.now.step }
     ensures { result ≡ word_of_value lab.now value }
 {
-    let Value { node, step, part } = value;
+    let PartValue { node, step, part } = value;
     let place = step.min(lab.steps(node));
     let walk = walk_to(lab, near, at, node, place);
-    word_after_walking_back(lab, node, place, &walk, part)
+    part_word_after_walk_back(lab, node, place, &walk, part)
 }
 
 /// The line from which to go on after so many.
-fn next_provenance_line(lines: u64, is_whole: bool) -> Option<u64>
+fn next_provenance_line_number(lines: u64, is_whole: bool) -> Option<u64>
     requires { lines < 2 ^ 32 }
-    ensures { result ≡ next_provenance_line lines is_whole }
+    ensures { result ≡ next_provenance_line_number lines is_whole }
 {
     if is_whole { None } else { Some(lines + 1) }
 }
@@ -238,7 +239,7 @@ fn query_row<'l, 'n>(
     more: Option<u64>,
 ) -> RowFields<'n>
     requires { near.now ≡ node_at_step lab.now query.node near.now.step }
-    ensures { map named_field_value result.items ≡ whence_fields query.entry.notes.now lab.now query.entry.node query.entry.step query.entry.first (map named_field_value queried.now) more }
+    ensures { map named_field_value result.items ≡ provenance_head_fields query.entry.notes.now lab.now query.entry.node query.entry.step query.entry.first (map named_field_value queried.now) more }
 {
     let LinesQuery {
         notes,
@@ -266,8 +267,8 @@ fn query_row<'l, 'n>(
 }
 
 /// No part.
-fn no_value_fields() -> [Field<'static>; 3]
-    ensures { map named_field_value result ≡ no_value_fields }
+fn null_part_word_fields() -> [Field<'static>; 3]
+    ensures { map named_field_value result ≡ null_part_word_fields }
 {
     [
         Field::absent(b"part"),
@@ -294,16 +295,16 @@ fn line_row<'l, 'r>(
         Field::number(b"number", u64::from(number)),
         Field::number(b"user", u64::from(line.user)),
         Field::node(b"node", value.node),
-        number_unless_zero(b"step", value.step),
+        json_number_unless_zero(b"step", value.step),
     ]);
     push_made(&mut row, lab, value);
-    push_fields(&mut row, &value_fields(value.part, word));
+    push_fields(&mut row, &part_word_fields(value.part, word));
     push_fields(
         &mut row,
         &[
-            optional_number(b"a", value_a(lab, value, a)),
+            optional_number(b"a", register_a_made_with_value(lab, value, a)),
             Field::number(b"count", u64::from(line.count)),
-            Field::flag(b"never_set", is_never_set(notes, value)),
+            Field::flag(b"never_set", is_value_never_set(notes, value)),
         ],
     );
     let source = value_source(lab, notes, walk, value.node, value);
@@ -312,25 +313,25 @@ fn line_row<'l, 'r>(
 }
 
 /// A after the step of a value, if that is T of a `+*`, which makes both.
-pub(crate) fn value_a(lab: &Lab, value: Value, a: Word18) -> Option<u64>
-    ensures { result ≡ value_a lab.now value a }
+pub(crate) fn register_a_made_with_value(lab: &Lab, value: PartValue, a: Word18) -> Option<u64>
+    ensures { result ≡ register_a_made_with_value lab.now value a }
 {
     if value.step == 0 {
         return None;
     }
     match lab.made_event_of_step(value.node, value.step - 1) {
-        Some(Made::Own { kind, .. }) => own_event_a(kind, value.part, a),
-        Some(Made::Pass { .. }) => None,
+        Some(MadeEvent::Own { kind, .. }) => register_a_if_made_by_own_event(kind, value.part, a),
+        Some(MadeEvent::Pass { .. }) => None,
         None => None,
     }
 }
 
 /// A after an event of a node's own, if it is a `+*` and the part is T.
-fn own_event_a(kind: OwnEventKind, part: NodePart, a: Word18) -> Option<u64>
-    ensures { result ≡ own_event_a kind part a }
+fn register_a_if_made_by_own_event(kind: OwnEventKind, part: NodePart, a: Word18) -> Option<u64>
+    ensures { result ≡ register_a_if_made_by_own_event kind part a }
 {
     match kind {
-        OwnEventKind::Run(code) => multiplied_a(code, part, a),
+        OwnEventKind::Run(code) => register_a_if_made_by_multiply_step(code, part, a),
         OwnEventKind::Fetch => None,
         OwnEventKind::Wait => None,
         OwnEventKind::Stop(_) => None,
@@ -338,8 +339,8 @@ fn own_event_a(kind: OwnEventKind, part: NodePart, a: Word18) -> Option<u64>
 }
 
 /// A after an opcode, if it is `+*` and the part is T.
-fn multiplied_a(code: u8, part: NodePart, a: Word18) -> Option<u64>
-    ensures { result ≡ multiplied_a code part a }
+fn register_a_if_made_by_multiply_step(code: u8, part: NodePart, a: Word18) -> Option<u64>
+    ensures { result ≡ register_a_if_made_by_multiply_step code part a }
 {
     match part {
         NodePart::Data(k) => {
@@ -354,7 +355,7 @@ fn multiplied_a(code: u8, part: NodePart, a: Word18) -> Option<u64>
 }
 
 /// Adds what the step of a value did, or that the value was loaded.
-fn push_made<'r>(row: &mut RowFields<'r>, lab: &Lab, value: Value)
+fn push_made<'r>(row: &mut RowFields<'r>, lab: &Lab, value: PartValue)
     requires { array_vec_len row.old + MAX_ACTION_FIELDS ≤ MAX_FIELDS }
     ensures fields { map named_field_value row.new.items ≡ map named_field_value row.old.items ++ value_origin_fields lab.now value }
     ensures len { array_vec_len row.new ≤ array_vec_len row.old + MAX_ACTION_FIELDS }

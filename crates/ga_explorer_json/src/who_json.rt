@@ -3,8 +3,8 @@
 ghost use Rattle.std.specs.Prelude.{◌≡◌, ◌≤◌, ◌+◌, ◌++◌, map, IsTrue};
 ghost use Rattle.arrayvec.specs.ArrayVec.{array_vec_len};
 ghost use Rattle.ga_grid.specs.Grid.{optional_node_number};
-ghost use Rattle.ga_grid.specs.Chip.{records_of};
-ghost use Rattle.ga_causal.specs.Dependence.{is_marked};
+ghost use Rattle.ga_grid.specs.Chip.{records_of_chip};
+ghost use Rattle.ga_causal.specs.Dependence.{is_node_flagged};
 ghost use Rattle.ga_text.specs.Output.{WritesSomeText, WritesExactly};
 ghost use Rattle.ga_json.specs.Names.{is_field_name};
 ghost use Rattle.ga_json.specs.Compact.{json_line};
@@ -12,20 +12,20 @@ ghost use Rattle.ga_json.specs.FieldValues.{field_value_json};
 ghost use Rattle.ga_json.specs.Fields.{named_field_value, row_json};
 ghost use Rattle.ga_explorer_text.specs.Waiting.{node_activity_text};
 ghost use Rattle.ga_explorer_json.specs.Rows.{IsJsonLine};
-ghost use Rattle.ga_explorer_json.specs.Who.{neighbour_json, neighbour_activity_json, awaited_fields, activity_fields, waiting_json, is_wait, has_who_row, who_rows, who_fields, who_json, IsWhoJson};
+ghost use Rattle.ga_explorer_json.specs.Who.{neighbour_json, neighbour_activity_json, awaited_neighbour_fields, node_activity_fields, waiting_node_json, is_node_waiting, has_waiting_node_row, waiting_node_rows, waiting_nodes_head_fields, waiting_nodes_json, IsWaitingNodesJson};
 
 use crate::activity::activity_name;
 use crate::row::push_fields;
 use ga_explorer_text::{
-    awaited_neighbour, count_idle_marked_nodes, find_ended_marked_nodes, find_live_nodes,
-    idle_count,
+    awaited_neighbour, count_idle_marked_nodes, count_idle_nodes, find_ended_marked_nodes,
+    find_live_nodes,
 };
 use ga_grid::{Chip, NodeId};
 use ga_json::{Field, MAX_FIELDS, RowCursor, RowFields, row_fields, write_report};
 use ga_lab::Lab;
 use ga_node::Wait;
 use ga_ports::Side;
-use ga_races::find_deadlocked;
+use ga_races::find_deadlocked_nodes;
 use ga_scheduler::find_idle_nodes;
 use ga_text::{WriteResult, Writer};
 use std::io::Write;
@@ -38,11 +38,11 @@ type NodeFlags = [bool; 144];
 ///
 /// # Errors
 /// A write failed.
-pub fn write_who_json<W: Write>(lab: &Lab, writer: &mut Writer<'_, W>) -> WriteResult
-    ensures { WritesSomeText result (IsJsonLine (IsWhoJson lab.now)) W.contents writer.old writer.new }
+pub fn write_waiting_nodes_json<W: Write>(lab: &Lab, writer: &mut Writer<'_, W>) -> WriteResult
+    ensures { WritesSomeText result (IsJsonLine (IsWaitingNodesJson lab.now)) W.contents writer.old writer.new }
 {
     let chip = lab.chip();
-    let stuck = find_deadlocked(chip);
+    let stuck = find_deadlocked_nodes(chip);
     let ended = find_ended_marked_nodes(&stuck, &find_live_nodes(chip));
     let idle = find_idle_nodes(lab);
     write_waiting(chip, &stuck, &ended, &idle, writer)
@@ -56,10 +56,13 @@ fn write_waiting<W: Write>(
     idle: &NodeFlags,
     writer: &mut Writer<'_, W>,
 ) -> WriteResult
-    ensures { WritesExactly result (json_line (who_json (records_of chip.now) (is_marked stuck.now) (is_marked ended.now) (is_marked idle.now)))
+    ensures { WritesExactly result (json_line (waiting_nodes_json (records_of_chip chip.now) (is_node_flagged stuck.now) (is_node_flagged ended.now) (is_node_flagged idle.now)))
         W.contents writer.old writer.new }
 {
-    let head = who_fields(idle_count(idle), count_idle_marked_nodes(stuck, idle));
+    let head = waiting_nodes_head_fields(
+        count_idle_nodes(idle),
+        count_idle_marked_nodes(stuck, idle),
+    );
     let mut rows = WaitRows {
         chip,
         stuck,
@@ -83,12 +86,12 @@ struct WaitRows<'l> {
 impl<'l> RowCursor<'l> for WaitRows<'l> {
     ghost use Rattle.std.specs.Prelude.{◌-◌};
 
-    ghost left = { λ rows. who_rows (records_of rows.chip.now) (is_marked rows.stuck.now) (is_marked rows.ended.now) (is_marked rows.idle.now) rows.number (144 - rows.number) };
+    ghost left = { λ rows. waiting_node_rows (records_of_chip rows.chip.now) (is_node_flagged rows.stuck.now) (is_node_flagged rows.ended.now) (is_node_flagged rows.idle.now) rows.number (144 - rows.number) };
 
     fn next(&mut self) -> Option<RowFields<'l>> {
         'seeking: for number in self.number..144u8 {
             let node = NodeId::new(number);
-            if has_who_row(self.chip, self.stuck, self.idle, node) {
+            if has_waiting_node_row(self.chip, self.stuck, self.idle, node) {
                 self.number = number + 1;
                 let deadlocked = is_flagged(self.stuck, node);
                 let ended = is_flagged(self.ended, node);
@@ -100,8 +103,8 @@ impl<'l> RowCursor<'l> for WaitRows<'l> {
 }
 
 /// How many nodes are idle, and how many of the deadlocked ones.
-fn who_fields(idle: u8, deadlocked: u8) -> [Field<'static>; 3]
-    ensures { map named_field_value result ≡ who_fields idle deadlocked }
+fn waiting_nodes_head_fields(idle: u8, deadlocked: u8) -> [Field<'static>; 3]
+    ensures { map named_field_value result ≡ waiting_nodes_head_fields idle deadlocked }
 {
     [
         Field::text(b"command", b"who"),
@@ -112,23 +115,23 @@ fn who_fields(idle: u8, deadlocked: u8) -> [Field<'static>; 3]
 
 /// Whether a node is flagged.
 fn is_flagged(flags: &NodeFlags, node: NodeId) -> bool
-    ensures { result ≡ is_marked flags.now node.number }
+    ensures { result ≡ is_node_flagged flags.now node.number }
 {
     flags[node.index()]
 }
 
 /// Whether a node has a row.
-fn has_who_row(chip: &Chip, stuck: &NodeFlags, idle: &NodeFlags, node: NodeId) -> bool
-    ensures { result ≡ has_who_row (records_of chip.now) (is_marked stuck.now) (is_marked idle.now) node.number }
+fn has_waiting_node_row(chip: &Chip, stuck: &NodeFlags, idle: &NodeFlags, node: NodeId) -> bool
+    ensures { result ≡ has_waiting_node_row (records_of_chip chip.now) (is_node_flagged stuck.now) (is_node_flagged idle.now) node.number }
 {
-    let waits = is_wait(chip.node(node).wait());
+    let waits = is_node_waiting(chip.node(node).wait());
     let deadlocked = is_flagged(stuck, node);
     !is_flagged(idle, node) && (waits || deadlocked)
 }
 
 /// Whether a node waits.
-fn is_wait(wait: Wait) -> bool
-    ensures { result ≡ is_wait wait }
+fn is_node_waiting(wait: Wait) -> bool
+    ensures { result ≡ is_node_waiting wait }
 {
     match wait {
         Wait::Fetch(_) => true,
@@ -140,9 +143,9 @@ fn is_wait(wait: Wait) -> bool
 
 /// A node and what it does, and the same of each neighbour that it awaits.
 fn waiting_row<'l>(chip: &Chip, deadlocked: bool, ended: bool, node: NodeId) -> RowFields<'l>
-    ensures { row_json result.items ≡ waiting_json (records_of chip.now) deadlocked ended node.number }
+    ensures { row_json result.items ≡ waiting_node_json (records_of_chip chip.now) deadlocked ended node.number }
 {
-    let mut row = row_fields(&activity_fields(chip, deadlocked, ended, node));
+    let mut row = row_fields(&node_activity_fields(chip, deadlocked, ended, node));
     push_awaited(&mut row, chip, node, Side::Right, b"right", b"right_does");
     push_awaited(&mut row, chip, node, Side::Down, b"down", b"down_does");
     push_awaited(&mut row, chip, node, Side::Left, b"left", b"left_does");
@@ -151,8 +154,13 @@ fn waiting_row<'l>(chip: &Chip, deadlocked: bool, ended: bool, node: NodeId) -> 
 }
 
 /// A node and what it does; whether it is deadlocked, and whether it is and has ended.
-fn activity_fields(chip: &Chip, deadlocked: bool, ended: bool, node: NodeId) -> [Field<'static>; 4]
-    ensures { map named_field_value result ≡ activity_fields (records_of chip.now) deadlocked ended node.number }
+fn node_activity_fields(
+    chip: &Chip,
+    deadlocked: bool,
+    ended: bool,
+    node: NodeId,
+) -> [Field<'static>; 4]
+    ensures { map named_field_value result ≡ node_activity_fields (records_of_chip chip.now) deadlocked ended node.number }
 {
     [
         Field::node(b"node", node),
@@ -174,7 +182,7 @@ fn push_awaited<'l>(
     requires room { array_vec_len row.old + 2 ≤ MAX_FIELDS }
     requires name { IsTrue (is_field_name name.now) }
     requires does { IsTrue (is_field_name does.now) }
-    ensures fields { map named_field_value row.new.items ≡ map named_field_value row.old.items ++ awaited_fields (records_of chip.now) node.number side name.now does.now }
+    ensures fields { map named_field_value row.new.items ≡ map named_field_value row.old.items ++ awaited_neighbour_fields (records_of_chip chip.now) node.number side name.now does.now }
     ensures len { array_vec_len row.new ≡ array_vec_len row.old + 2 }
 {
     let neighbour = awaited_neighbour(chip, node, side);
@@ -203,7 +211,7 @@ fn neighbour_field(name: &'static [u8], neighbour: Option<NodeId>) -> Field<'sta
 fn neighbour_activity(name: &'static [u8], chip: &Chip, neighbour: Option<NodeId>) -> Field<'static>
     requires { IsTrue (is_field_name name.now) }
     ensures name { result.name.now ≡ name.now }
-    ensures value { field_value_json result.value ≡ neighbour_activity_json (records_of chip.now) (optional_node_number neighbour) }
+    ensures value { field_value_json result.value ≡ neighbour_activity_json (records_of_chip chip.now) (optional_node_number neighbour) }
 {
     match neighbour {
         Some(node) => Field::text(name, activity_of(chip, node)),
@@ -213,7 +221,7 @@ fn neighbour_activity(name: &'static [u8], chip: &Chip, neighbour: Option<NodeId
 
 /// What a node does.
 fn activity_of(chip: &Chip, node: NodeId) -> &'static [u8]
-    ensures { result.now ≡ node_activity_text (records_of chip.now) node.number }
+    ensures { result.now ≡ node_activity_text (records_of_chip chip.now) node.number }
 {
     let at = chip.node(node);
     activity_name(at.wait(), at.stop())

@@ -2,11 +2,11 @@
 
 ghost use Rattle.std.specs.Prelude.{◌≡◌, map};
 ghost use Rattle.ga_text.specs.Output.{WritesExactly};
-ghost use Rattle.ga_scheduler.specs.Words.{transfers_left};
+ghost use Rattle.ga_scheduler.specs.Words.{unlisted_transfers};
 ghost use Rattle.ga_json.specs.Compact.{json_line};
 ghost use Rattle.ga_json.specs.Fields.{named_field_value, row_json};
-ghost use Rattle.ga_explorer_json.specs.Rows.{json_rows};
-ghost use Rattle.ga_explorer_json.specs.Words.{transfer_json, link_fields, transfers_json, words_json};
+ghost use Rattle.ga_explorer_json.specs.Rows.{json_rows_of_items};
+ghost use Rattle.ga_explorer_json.specs.Words.{transfer_json, link_words_head_fields, transfers_json, link_words_answer_json};
 
 use crate::refusal::write_refusal;
 use ga_grid::NodeId;
@@ -27,7 +27,7 @@ pub fn write_link_words_json<W: Write>(
     to: NodeId,
     writer: &mut Writer<'_, W>,
 ) -> WriteResult
-    ensures { WritesExactly result (json_line (words_json lab.now from to)) W.contents writer.old writer.new }
+    ensures { WritesExactly result (json_line (link_words_answer_json lab.now from to)) W.contents writer.old writer.new }
 {
     if are_neighbours(from, to) {
         write_transfers(lab, from, to, writer)
@@ -51,7 +51,7 @@ fn write_transfers<W: Write>(
 ) -> WriteResult
     ensures { WritesExactly result (json_line (transfers_json lab.now from to)) W.contents writer.old writer.new }
 {
-    let head = link_fields(from, to, count_transfers(lab, from, to));
+    let head = link_words_head_fields(from, to, count_transfers(lab, from, to));
     let mut rows = TransferRows {
         lab,
         words: TransferIter::new(from, to),
@@ -67,7 +67,7 @@ struct TransferRows<'l> {
 }
 
 impl<'l> RowCursor<'l> for TransferRows<'l> {
-    ghost left = { λ rows. json_rows transfer_json (transfers_left rows.lab.now rows.words) };
+    ghost left = { λ rows. json_rows_of_items transfer_json (unlisted_transfers rows.lab.now rows.words) };
 
     fn next(&mut self) -> Option<RowFields<'l>> {
         match self.words.next(self.lab) {
@@ -78,8 +78,8 @@ impl<'l> RowCursor<'l> for TransferRows<'l> {
 }
 
 /// The link, and how many words of it are kept.
-fn link_fields(from: NodeId, to: NodeId, count: u32) -> [Field<'static>; 4]
-    ensures { map named_field_value result ≡ link_fields from to count }
+fn link_words_head_fields(from: NodeId, to: NodeId, count: u32) -> [Field<'static>; 4]
+    ensures { map named_field_value result ≡ link_words_head_fields from to count }
 {
     [
         Field::text(b"command", b"words"),

@@ -4,7 +4,7 @@ ghost use Rattle.std.specs.Prelude.{◌≡◌, map};
 ghost use Rattle.ga_text.specs.Output.{WritesExactly};
 ghost use Rattle.ga_json.specs.Compact.{json_line};
 ghost use Rattle.ga_json.specs.Fields.{named_field_value, row_json};
-ghost use Rattle.ga_explorer_json.specs.Writes.{cell_write_json, cell_write_rows, writes_fields, writes_json};
+ghost use Rattle.ga_explorer_json.specs.Writes.{cell_write_json, cell_write_rows, cell_writes_head_fields, cell_writes_answer_json};
 
 use crate::event::push_action;
 use crate::row::{NoRows, push_fields};
@@ -25,9 +25,9 @@ pub fn write_cell_writes_json<W: Write>(
     address: u8,
     writer: &mut Writer<'_, W>,
 ) -> WriteResult
-    ensures { WritesExactly result (json_line (writes_json lab.now node address)) W.contents writer.old writer.new }
+    ensures { WritesExactly result (json_line (cell_writes_answer_json lab.now node address)) W.contents writer.old writer.new }
 {
-    let head = writes_fields(node, address);
+    let head = cell_writes_head_fields(node, address);
     if address < 128 {
         let mut rows = CellWriteRows {
             writes: CellWrites::new(lab, node, address % 64),
@@ -56,8 +56,8 @@ impl<'l> RowCursor<'l> for CellWriteRows<'l> {
 }
 
 /// The node and the address.
-fn writes_fields(node: NodeId, address: u8) -> [Field<'static>; 3]
-    ensures { map named_field_value result ≡ writes_fields node address }
+fn cell_writes_head_fields(node: NodeId, address: u8) -> [Field<'static>; 3]
+    ensures { map named_field_value result ≡ cell_writes_head_fields node address }
 {
     [
         Field::text(b"command", b"writes"),

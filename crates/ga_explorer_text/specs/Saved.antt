@@ -3,24 +3,24 @@ use Rattle.std.specs.Prelude.{List, [], ◌∷◌, ◌++◌, codes, map, flat_ma
 use Rattle.ga_text.specs.Lines.{Text, Line}
 use Rattle.ga_grid.specs.declared.node_id.NodeId.{NodeId}
 use Rattle.ga_event.specs.declared.event.Event.{Event}
-use Rattle.ga_lab.specs.Machine.{State, acting_node}
+use Rattle.ga_lab.specs.Machine.{MachineState, own_or_writing_node}
 use Rattle.ga_text.specs.Digits.{name_of_node}
-use Rattle.ga_display.specs.Texts.{space_separated}
+use Rattle.ga_display.specs.Texts.{join_with_spaces}
 
 -- a step of a node
 abbrev pub step_command_line : NodeId → Text
-step_command_line node = space_separated (codes "step" ∷ name_of_node node ∷ [])
+step_command_line node = join_with_spaces (codes "step" ∷ name_of_node node ∷ [])
 
 -- the line of a kept event: the step of its node, of a pass of the writer
 abbrev pub saved_event_line : Event → Text
-saved_event_line e = step_command_line (acting_node e)
+saved_event_line e = step_command_line (own_or_writing_node e)
 
-abbrev pub saved_session_lines : State → List Line
+abbrev pub saved_session_lines : MachineState → List Line
 saved_session_lines s = map saved_event_line s.kept
 
 -- a line, ended by a line feed
-abbrev pub with_line_feed : Text → Text
-with_line_feed line = line ++ codes "\n"
+abbrev pub text_with_line_feed : Text → Text
+text_with_line_feed line = line ++ codes "\n"
 
-abbrev pub saved_text : State → Text
-saved_text s = flat_map with_line_feed (saved_session_lines s)
+abbrev pub saved_session_text : MachineState → Text
+saved_session_text s = flat_map text_with_line_feed (saved_session_lines s)

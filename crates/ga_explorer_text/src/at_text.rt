@@ -40,7 +40,7 @@ pub fn write_steps_around<W: Write>(
 impl<'l> StepContext<'l> {
     ghost use Rattle.std.specs.Prelude.{◌≡◌, ◌<◌, ◌≤◌, ◌-◌};
     ghost use Rattle.std.specs.List.{slice_get};
-    ghost use Rattle.ga_lab.specs.Machine.{history_of};
+    ghost use Rattle.ga_lab.specs.Machine.{history_of_node};
     ghost use Rattle.ga_provenance.specs.Origins.{node_after_steps};
     ghost use Rattle.ga_text.specs.Output.{WritesSomeText, WritesExactly};
     ghost use Rattle.ga_explorer_text.specs.Around.{step_registers_text, numbered_step_text, numbered_steps_text};
@@ -72,13 +72,13 @@ impl<'l> StepContext<'l> {
             near,
         };
         writer.write_blocks(there.place_line().as_slice())?;
-        there.write_own_suffix(writer)
+        there.write_current_step_suffix(writer)
     }
 
     /// The text of the step to which the node is walked back.
     fn place_line(&self) -> TextBuffer
         requires { 0 < self.now.near.step }
-        ensures { result.items ≡ step_registers_text self.now.node self.now.near.step (slice_get (history_of self.now.lab.now self.now.node.number) (self.now.near.step - 1))
+        ensures { result.items ≡ step_registers_text self.now.node self.now.near.step (slice_get (history_of_node self.now.lab.now self.now.node.number) (self.now.near.step - 1))
             (node_after_steps self.now.lab.now self.now.node.number self.now.near.step) }
     {
         let step = self.near.step();

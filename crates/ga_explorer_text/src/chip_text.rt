@@ -2,13 +2,13 @@
 
 ghost use Rattle.std.specs.Prelude.{◌≡◌, ◌+◌, ◌*◌, ◌-◌, ◌<◌, ◌≤◌, ◌++◌, ◌∷◌, []};
 ghost use Rattle.arrayvec.specs.ArrayVec.{array_vec_len};
-ghost use Rattle.ga_explorer_text.specs.Texts.{chip_text, chip_row_text, node_symbol_text, node_symbols_text, side_letter, activity_symbol};
+ghost use Rattle.ga_explorer_text.specs.Texts.{chip_text, chip_row_text, node_symbol_text, node_symbols_text, single_side_letter, activity_symbol};
 
 use arrayvec::ArrayVec;
 use ga_grid::NodeId;
 use ga_lab::Lab;
 use ga_node::Wait;
-use ga_text::{push_digit, push_text};
+use ga_text::{push_decimal_digit, push_text};
 
 /// The bytes of a node.
 const CELL_ROOM: usize = 3;
@@ -45,7 +45,7 @@ fn push_row(out: &mut ChipText, lab: &Lab, row: u8)
     ensures text { out.new.items ≡ out.old.items ++ chip_row_text lab.now row }
     ensures len { array_vec_len out.new ≡ array_vec_len out.old + ROW_ROOM }
 {
-    push_digit(out, row);
+    push_decimal_digit(out, row);
     push_cells(out, lab, COLUMNS * row);
     push_text(out, b"\n");
 }
@@ -90,14 +90,14 @@ fn push_doing(out: &mut ChipText, wait: Wait, stop: u8)
     match wait {
         Wait::Fetch(sides) => push_text(out, &[b' ', b'@', letter(sides.get())]),
         Wait::Read(sides) => push_text(out, &[b' ', b'?', letter(sides.get())]),
-        Wait::Write(side) => push_text(out, &[b' ', b'!', letter(side.bit())]),
+        Wait::Write(side) => push_text(out, &[b' ', b'!', letter(side.bit_in_set())]),
         Wait::Nothing => push_text(out, if stop == 0 { b"  *" } else { b"  x" }),
     }
 }
 
 /// The letter of a set's side, where it has one alone.
 fn letter(sides: u8) -> u8
-    ensures { result ∷ [] ≡ side_letter sides }
+    ensures { result ∷ [] ≡ single_side_letter sides }
 {
     match sides {
         8 => b'r',

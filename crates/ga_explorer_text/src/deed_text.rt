@@ -2,11 +2,11 @@
 
 ghost use Rattle.std.specs.Prelude.{◌≡◌, ◌+◌, ◌≤◌, ◌++◌, ◌%◌, length};
 ghost use Rattle.arrayvec.specs.ArrayVec.{array_vec_len};
-ghost use Rattle.ga_slots.specs.Codes.{name_of, op_of_code};
-ghost use Rattle.ga_explorer_text.specs.Deeds.{action_text, own_event_kind_name, pass_text};
+ghost use Rattle.ga_slots.specs.Codes.{name_of_opcode, opcode_of_code};
+ghost use Rattle.ga_explorer_text.specs.Deeds.{step_text_for_node, own_event_kind_name, passed_word_text};
 
 use ga_grid::NodeId;
-use ga_lab::Made;
+use ga_lab::MadeEvent;
 use ga_node::OwnEventKind;
 use ga_slots::Op;
 use ga_text::{
@@ -26,14 +26,14 @@ pub(crate) const MAX_ACTION_BYTES: usize = b"takes  from ".len() + WORD_DIGITS +
 
 /// Adds what a step of a node did: the opcode's name, what came in its place, or the word that was passed and the step at the other
 /// end.
-pub(crate) fn push_action(out: &mut TextBuffer, made: Made, node: NodeId)
+pub(crate) fn push_action(out: &mut TextBuffer, made: MadeEvent, node: NodeId)
     requires { array_vec_len out.old + MAX_ACTION_BYTES ≤ 256 }
-    ensures text { out.new.items ≡ out.old.items ++ action_text made node.number }
+    ensures text { out.new.items ≡ out.old.items ++ step_text_for_node made node.number }
     ensures len { array_vec_len out.new ≤ array_vec_len out.old + MAX_ACTION_BYTES }
 {
     match &made {
-        Made::Own { kind, .. } => push_kind(out, *kind),
-        Made::Pass {
+        MadeEvent::Own { kind, .. } => push_kind(out, *kind),
+        MadeEvent::Pass {
             writer,
             writer_step,
             reader,
@@ -42,7 +42,7 @@ pub(crate) fn push_action(out: &mut TextBuffer, made: Made, node: NodeId)
         } if node.number == reader.number => {
             push_pass(out, b"takes ", *word, b" from ", *writer, *writer_step);
         }
-        Made::Pass {
+        MadeEvent::Pass {
             reader,
             reader_step,
             word,
@@ -54,7 +54,7 @@ pub(crate) fn push_action(out: &mut TextBuffer, made: Made, node: NodeId)
 /// Adds which way a word went, the word, and the step at the other end.
 fn push_pass(out: &mut TextBuffer, way: &[u8], word: Word18, end: &[u8], other: NodeId, step: u32)
     requires { array_vec_len out.old + length way.now + length end.now + WORD_DIGITS + MAX_STEP_BYTES ≤ 256 }
-    ensures text { out.new.items ≡ out.old.items ++ pass_text way.now word end.now other step }
+    ensures text { out.new.items ≡ out.old.items ++ passed_word_text way.now word end.now other step }
     ensures len { array_vec_len out.new ≤ array_vec_len out.old + length way.now + length end.now + WORD_DIGITS + MAX_STEP_BYTES }
 {
     push_text(out, way);
@@ -82,7 +82,7 @@ fn push_kind(out: &mut TextBuffer, kind: OwnEventKind)
 
 /// The name of the opcode with this code.
 fn opcode_name(code: u8) -> &'static [u8]
-    ensures text { result.now ≡ name_of (op_of_code (code % 32)) }
+    ensures text { result.now ≡ name_of_opcode (opcode_of_code (code % 32)) }
     ensures len { length result.now ≤ NAME_ROOM }
 {
     Op::from_code(code % 32).name().as_bytes()

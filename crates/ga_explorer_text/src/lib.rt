@@ -3,16 +3,16 @@
 
 mod at_text;
 mod back_text;
-mod because_text;
 mod chip_text;
+mod decisions_before_step_text;
 mod deed_text;
-mod effects_text;
 mod ended;
 mod line_number;
 mod part_text;
 mod passed_text;
 mod races_text;
 mod ring_text;
+mod rollback_effects_text;
 mod run_text;
 mod saved_text;
 mod source_suffix;
@@ -24,21 +24,24 @@ mod words_text;
 mod writes_text;
 
 pub use at_text::write_steps_around;
-pub use back_text::write_back_until;
-pub use because_text::write_because;
+pub use back_text::answer_back_until_command;
 pub use chip_text::chip_overview;
-pub use effects_text::write_effects;
+pub use decisions_before_step_text::write_decisions_answer;
 pub use ended::{find_ended_marked_nodes, find_live_nodes};
-pub use line_number::last_written_line;
+pub use line_number::last_written_line_number;
 pub use races_text::write_races;
 pub use ring_text::awaited_neighbour;
+pub use rollback_effects_text::write_rollback_effects;
 pub use run_text::run_result_text;
-pub use saved_text::write_save;
+pub use saved_text::write_saved_session;
 pub use source_suffix::{
-    cell_note_text, cell_of_node_part, given_place_of_part, slot_note_text, walked_slot,
+    cell_note_text, cell_of_node_part, load_place_of_node_part, slot_after_walk_back,
+    slot_note_text,
 };
-pub use value_words::word_after_walking_back;
-pub use whence_text::{provenance_lines_after, selected_value, write_whence};
-pub use who_text::{count_idle_marked_nodes, idle_count, write_who};
+pub use value_words::part_word_after_walk_back;
+pub use whence_text::{
+    named_or_selected_part_value, skip_provenance_lines, write_provenance_answer,
+};
+pub use who_text::{count_idle_marked_nodes, count_idle_nodes, write_waiting_nodes};
 pub use words_text::write_link_words;
 pub use writes_text::write_cell_writes;

@@ -2,7 +2,7 @@
 
 ghost use Rattle.std.specs.Prelude.{◌≡◌, ◌+◌, ◌^◌, ◌<◌, ◌≤◌, ◌++◌};
 ghost use Rattle.arrayvec.specs.ArrayVec.{array_vec_len};
-ghost use Rattle.ga_explorer_text.specs.Whence.{using_line_suffix, line_number_text, run_count_text, using_line_number, has_queried_step_line, last_written_line, more_lines_text};
+ghost use Rattle.ga_explorer_text.specs.Whence.{using_line_suffix, value_line_numbers_text, value_run_count_text, using_line_number, has_queried_step_line, last_written_line_number, more_provenance_lines_text};
 
 use arrayvec::ArrayVec;
 use ga_text::{MAX_NUMBER_DIGITS, TextBuffer, push_number, push_text};
@@ -20,8 +20,8 @@ pub(crate) const MAX_LINE_NUMBER_BYTES: usize = MAX_NUMBER_DIGITS + MAX_USER_BYT
 pub(crate) const MAX_RUN_COUNT_BYTES: usize = 2 + MAX_NUMBER_DIGITS;
 
 /// The number of the last line that is written, from line `first` on.
-pub fn last_written_line(first: u32) -> u32
-    ensures { result ≡ last_written_line first }
+pub fn last_written_line_number(first: u32) -> u32
+    ensures { result ≡ last_written_line_number first }
 {
     first.saturating_sub(1).saturating_add(MAX_LINES)
 }
@@ -47,7 +47,7 @@ pub(crate) fn using_line_number(is_moved: bool, number: u32, user: u32) -> Optio
 /// The text after the lines: from where to go on, if these are not all, or that there are none.
 pub(crate) fn more_lines(lines: u64, first: u32, is_whole: bool) -> TextBuffer
     requires { lines < 2 ^ 32 }
-    ensures { result.items ≡ more_lines_text lines first is_whole }
+    ensures { result.items ≡ more_provenance_lines_text lines first is_whole }
 {
     let mut out = ArrayVec::new();
     if is_whole {
@@ -65,7 +65,7 @@ pub(crate) fn more_lines(lines: u64, first: u32, is_whole: bool) -> TextBuffer
 /// Adds the number of a line, and that of the line that used its value, if any did.
 pub(crate) fn push_line_number(out: &mut TextBuffer, number: u32, user: Option<u32>)
     requires { array_vec_len out.old + MAX_LINE_NUMBER_BYTES ≤ 256 }
-    ensures text { out.new.items ≡ out.old.items ++ line_number_text number user }
+    ensures text { out.new.items ≡ out.old.items ++ value_line_numbers_text number user }
     ensures len { array_vec_len out.new ≤ array_vec_len out.old + MAX_LINE_NUMBER_BYTES }
 {
     push_number(out, u64::from(number));
@@ -88,7 +88,7 @@ fn push_user(out: &mut TextBuffer, user: Option<u32>)
 /// Adds how many values a run has, if more than one.
 pub(crate) fn push_run_count(out: &mut TextBuffer, count: u32)
     requires { array_vec_len out.old + MAX_RUN_COUNT_BYTES ≤ 256 }
-    ensures { out.new.items ≡ out.old.items ++ run_count_text count }
+    ensures { out.new.items ≡ out.old.items ++ value_run_count_text count }
 {
     if count > 1 {
         push_text(out, b" x");

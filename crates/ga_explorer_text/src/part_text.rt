@@ -38,7 +38,7 @@ pub(crate) fn push_part(out: &mut TextBuffer, part: NodePart)
         NodePart::Slot => push_text(out, b"slot"),
         NodePart::Wait => push_text(out, b"wait"),
         NodePart::Stop => push_text(out, b"stop"),
-        NodePart::Outside => push_text(out, b"outside"),
+        NodePart::OutsideWord => push_text(out, b"outside"),
     }
 }
 

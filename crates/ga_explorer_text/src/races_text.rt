@@ -2,11 +2,11 @@
 
 ghost use Rattle.std.specs.Prelude.{◌≡◌, ◌≤◌, ◌+◌, ◌++◌, flat_map, codes};
 ghost use Rattle.arrayvec.specs.ArrayVec.{array_vec_len};
-ghost use Rattle.ga_word.specs.Word.{hex6_of};
+ghost use Rattle.ga_word.specs.Word.{hex_digits_of_word};
 ghost use Rattle.ga_text.specs.Output.{WritesSomeText, WritesExactly};
 ghost use Rattle.ga_text.specs.Digits.{name_of_node};
-ghost use Rattle.ga_race_detector.specs.Readings.{rollback_step_of};
-ghost use Rattle.ga_explorer_text.specs.Races.{race_text, look_race_text, before_or_after_text, races_head, race_lines_text, races_last_line, listed_races_text, IsRacesAnswer};
+ghost use Rattle.ga_race_detector.specs.Readings.{step_removed_for_look};
+ghost use Rattle.ga_explorer_text.specs.Races.{race_text, look_race_text, look_before_or_behind_text, races_head_line, race_lines_text, races_last_line, listed_races_text, IsRacesAnswer};
 
 use arrayvec::ArrayVec;
 use ga_display::advised_refusal_text;
@@ -103,7 +103,7 @@ fn say_race<W: Write>(race: Race, writer: &mut Writer<'_, W>) -> WriteResult
 
 /// How many lines of steps follow.
 fn head_line(count: u64) -> TextBuffer
-    ensures { result.items ≡ races_head count }
+    ensures { result.items ≡ races_head_line count }
 {
     let mut out = ArrayVec::new();
     push_text(&mut out, b"races ");
@@ -117,7 +117,7 @@ fn head_line(count: u64) -> TextBuffer
 fn reading_line(reading: LookRace) -> TextBuffer
     ensures { result.items ≡ look_race_text reading }
 {
-    let (node, step) = rollback_step_of(&reading);
+    let (node, step) = step_removed_for_look(&reading);
     let mut out = ArrayVec::new();
     push_step(&mut out, reading.node, reading.step);
     push_text(&mut out, b" reads ");
@@ -136,7 +136,7 @@ fn reading_line(reading: LookRace) -> TextBuffer
 
 /// On which side of the change a look would have read the other word.
 fn side_of(is_look_first: bool) -> &'static [u8; 8]
-    ensures { result.now ≡ before_or_after_text is_look_first }
+    ensures { result.now ≡ look_before_or_behind_text is_look_first }
 {
     if is_look_first {
         b" behind "
@@ -146,8 +146,8 @@ fn side_of(is_look_first: bool) -> &'static [u8; 8]
 }
 
 /// The step that is taken back for a look to read the other word.
-fn rollback_step_of(reading: &LookRace) -> (NodeId, u32)
-    ensures { result ≡ rollback_step_of reading.now }
+fn step_removed_for_look(reading: &LookRace) -> (NodeId, u32)
+    ensures { result ≡ step_removed_for_look reading.now }
 {
     if reading.is_look_first {
         (reading.node, reading.step)
@@ -177,7 +177,7 @@ fn race_line(race: Race) -> TextBuffer
 /// Adds a word and the node that it comes from.
 fn push_from(out: &mut TextBuffer, word: Word18, node: NodeId)
     requires { array_vec_len out.old + FROM_ROOM ≤ 256 }
-    ensures text { out.new.items ≡ out.old.items ++ (hex6_of word ++ codes " from " ++ name_of_node node) }
+    ensures text { out.new.items ≡ out.old.items ++ (hex_digits_of_word word ++ codes " from " ++ name_of_node node) }
     ensures len { array_vec_len out.new ≤ array_vec_len out.old + FROM_ROOM }
 {
     push_word(out, word);

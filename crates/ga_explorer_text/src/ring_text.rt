@@ -3,14 +3,14 @@
 ghost use Rattle.ga_text.specs.Output.{WritesSomeText};
 ghost use Rattle.std.specs.Prelude.{◌≡◌, ◌+◌, [], Some};
 ghost use Rattle.ga_grid.specs.Grid.{optional_node_number};
-ghost use Rattle.ga_grid.specs.Chip.{records_of};
-ghost use Rattle.ga_causal.specs.Dependence.{is_marked};
-ghost use Rattle.ga_explorer_text.specs.Waiting.{awaited_neighbour, single_of_four_options, only_awaited_neighbour, wait_cycle_names, wait_cycle_line, wait_cycle_text, wait_cycles_text};
+ghost use Rattle.ga_grid.specs.Chip.{records_of_chip};
+ghost use Rattle.ga_causal.specs.Dependence.{is_node_flagged};
+ghost use Rattle.ga_explorer_text.specs.Waiting.{awaited_neighbour, single_of_four_options, only_awaited_neighbour, wait_cycle_node_names, wait_cycle_line, wait_cycle_text_at_node, wait_cycles_text};
 
 use arrayvec::ArrayVec;
 use ga_grid::{Chip, NodeId, neighbour};
 use ga_ports::Side;
-use ga_races::awaits;
+use ga_races::awaits_side;
 use ga_text::{WriteResult, Writer, push_node, push_text};
 use std::io::Write;
 
@@ -26,7 +26,7 @@ pub(crate) fn write_wait_cycles<W: Write>(
     stuck: &[bool; 144],
     writer: &mut Writer<'_, W>,
 ) -> WriteResult
-    ensures { WritesSomeText result (λ text. text ≡ wait_cycles_text (records_of chip.now) (is_marked stuck.now))
+    ensures { WritesSomeText result (λ text. text ≡ wait_cycles_text (records_of_chip chip.now) (is_node_flagged stuck.now))
         W.contents writer.old writer.new }
 {
     'nodes: for number in 0..144u8 {
@@ -38,7 +38,7 @@ pub(crate) fn write_wait_cycles<W: Write>(
 
 /// The line of a ring at its node of the lowest number, where that is marked.
 fn line_of_ring(chip: &Chip, stuck: &[bool; 144], node: NodeId) -> RingLine
-    ensures { result.items ≡ wait_cycle_text (records_of chip.now) (is_marked stuck.now) node.number }
+    ensures { result.items ≡ wait_cycle_text_at_node (records_of_chip chip.now) (is_node_flagged stuck.now) node.number }
 {
     if stuck[node.index()] {
         ring_from(chip, node)
@@ -49,7 +49,7 @@ fn line_of_ring(chip: &Chip, stuck: &[bool; 144], node: NodeId) -> RingLine
 
 /// The line of the wait cycle that leads from a node back to it by nodes of greater numbers; empty if it doesn't.
 fn ring_from(chip: &Chip, first: NodeId) -> RingLine
-    ensures { result.items ≡ wait_cycle_line first.number (wait_cycle_names (records_of chip.now) first.number 144 (only_awaited_neighbour (records_of chip.now) first.number)) }
+    ensures { result.items ≡ wait_cycle_line first.number (wait_cycle_node_names (records_of_chip chip.now) first.number 144 (only_awaited_neighbour (records_of_chip chip.now) first.number)) }
 {
     let mut out = ArrayVec::new();
     push_text(&mut out, b"ring ");
@@ -75,7 +75,7 @@ fn ring_from(chip: &Chip, first: NodeId) -> RingLine
 
 /// The neighbour that a node awaits, where it awaits no other.
 fn only_awaited_neighbour(chip: &Chip, node: NodeId) -> Option<NodeId>
-    ensures { optional_node_number result ≡ only_awaited_neighbour (records_of chip.now) node.number }
+    ensures { optional_node_number result ≡ only_awaited_neighbour (records_of_chip chip.now) node.number }
 {
     let right = awaited_neighbour(chip, node, Side::Right);
     let down = awaited_neighbour(chip, node, Side::Down);
@@ -104,9 +104,9 @@ fn single_of_four_options(
 
 /// The neighbour on a side, where the node awaits it.
 pub fn awaited_neighbour(chip: &Chip, node: NodeId, side: Side) -> Option<NodeId>
-    ensures { optional_node_number result ≡ awaited_neighbour (records_of chip.now) node.number side }
+    ensures { optional_node_number result ≡ awaited_neighbour (records_of_chip chip.now) node.number side }
 {
-    if awaits(&chip.node(node).wait(), side) {
+    if awaits_side(&chip.node(node).wait(), side) {
         neighbour(node, side)
     } else {
         None

@@ -2,10 +2,10 @@
 
 ghost use Rattle.std.specs.Prelude.{◌≡◌, ◌+◌, ◌*◌, ◌≤◌, ◌++◌, length, decimal};
 ghost use Rattle.arrayvec.specs.ArrayVec.{array_vec_len};
-ghost use Rattle.ga_explorer_text.specs.Texts.{run_text, held_condition_text, fault_name_text};
+ghost use Rattle.ga_explorer_text.specs.Texts.{run_end_text, which_condition_held_text, fault_name_text};
 
 use arrayvec::ArrayVec;
-use ga_display::{advice_text, push_event_text};
+use ga_display::{push_event_text, refusal_advice_text};
 use ga_lab::LabFault;
 use ga_scheduler::{RunEnd, RunResult};
 use ga_text::{MAX_LINE_BYTES, MAX_NUMBER_DIGITS, push_number, push_text};
@@ -18,20 +18,25 @@ pub type RunText = ArrayVec<u8, RUN_ROOM>;
 
 /// The number of events of a run, and why it ended: of several conditions, which held first; if the history is full, what to do.
 pub fn run_result_text(ran: &RunResult, conditions: usize) -> RunText
-    ensures { result.items ≡ run_text conditions ran.now.events ran.now.end }
+    ensures { result.items ≡ run_end_text conditions ran.now.events ran.now.end }
 {
     let mut out = ArrayVec::new();
     match ran.end {
-        RunEnd::Reached { made, which } => {
+        RunEnd::ConditionHeld { made, which } => {
             push_text(&mut out, b"reached ");
             push_number(&mut out, ran.events);
             push_which(&mut out, conditions, which);
             push_text(&mut out, b" ");
             push_event_text(&mut out, made);
         }
-        RunEnd::Made => push_count(&mut out, b"made ", ran.events, b"\n"),
+        RunEnd::MadeRequestedEvents => push_count(&mut out, b"made ", ran.events, b"\n"),
         RunEnd::Quiet => push_count(&mut out, b"quiet ", ran.events, b"\n"),
-        RunEnd::Refused(why) => push_count(&mut out, word_of(why), ran.events, advice_text(why)),
+        RunEnd::Refused(why) => push_count(
+            &mut out,
+            word_of(why),
+            ran.events,
+            refusal_advice_text(why),
+        ),
     }
     out
 }
@@ -39,7 +44,7 @@ pub fn run_result_text(ran: &RunResult, conditions: usize) -> RunText
 /// Adds which of several conditions held, counted from 1, and nothing of one alone.
 fn push_which(out: &mut RunText, conditions: usize, which: u8)
     requires { array_vec_len out.old + 2 * MAX_NUMBER_DIGITS ≤ MAX_LINE_BYTES }
-    ensures text { out.new.items ≡ out.old.items ++ held_condition_text conditions which }
+    ensures text { out.new.items ≡ out.old.items ++ which_condition_held_text conditions which }
     ensures len { array_vec_len out.new ≤ array_vec_len out.old + 2 * MAX_NUMBER_DIGITS }
 {
     if conditions > 1 {
@@ -71,6 +76,6 @@ fn word_of(why: LabFault) -> &'static [u8]
         LabFault::Memory => b"memory ",
         LabFault::Empty => b"empty ",
         LabFault::NoStep => b"nostep ",
-        LabFault::Spent => b"spent ",
+        LabFault::EventNumbersSpent => b"spent ",
     }
 }

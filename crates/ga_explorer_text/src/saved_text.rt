@@ -2,15 +2,15 @@
 
 ghost use Rattle.std.specs.Prelude.{◌≡◌, flat_map};
 ghost use Rattle.std.specs.List.{slice_get};
-ghost use Rattle.ga_lab.specs.Machine.{acting_node};
+ghost use Rattle.ga_lab.specs.Machine.{own_or_writing_node};
 ghost use Rattle.ga_text.specs.Output.{WritesSomeText, WritesExactly};
-ghost use Rattle.ga_explorer_text.specs.Saved.{step_command_line, with_line_feed, saved_text};
-ghost use Rattle.ga_explorer_text.specs.inner.{actor_in, line_at, cause_line};
+ghost use Rattle.ga_explorer_text.specs.Saved.{step_command_line, text_with_line_feed, saved_session_text};
+ghost use Rattle.ga_explorer_text.specs.inner.{acting_node_of_made_event, optional_event_line, line_of_event_with_look};
 
 use arrayvec::ArrayVec;
-use ga_event::{Cause, Event};
+use ga_event::{Event, EventWithLook};
 use ga_grid::NodeId;
-use ga_lab::{Lab, Made};
+use ga_lab::{Lab, MadeEvent};
 use ga_text::{TextBuffer, WriteResult, Writer, push_node, push_text};
 use std::io::Write;
 
@@ -19,8 +19,8 @@ use std::io::Write;
 ///
 /// # Errors
 /// A write failed.
-pub fn write_save<W: Write>(lab: &Lab, writer: &mut Writer<'_, W>) -> WriteResult
-    ensures { WritesExactly result (saved_text lab.now) W.contents writer.old writer.new }
+pub fn write_saved_session<W: Write>(lab: &Lab, writer: &mut Writer<'_, W>) -> WriteResult
+    ensures { WritesExactly result (saved_session_text lab.now) W.contents writer.old writer.new }
 {
     // So the kept events are those that are listed.
     let _chip = lab.chip();
@@ -31,8 +31,8 @@ pub fn write_save<W: Write>(lab: &Lab, writer: &mut Writer<'_, W>) -> WriteResul
 }
 
 /// Says the lines of these events.
-fn say_listed<W: Write>(causes: &[Cause], writer: &mut Writer<'_, W>) -> WriteResult
-    ensures { WritesSomeText result (λ text. text ≡ flat_map cause_line causes.now)
+fn say_listed<W: Write>(causes: &[EventWithLook], writer: &mut Writer<'_, W>) -> WriteResult
+    ensures { WritesSomeText result (λ text. text ≡ flat_map line_of_event_with_look causes.now)
         W.contents writer.old writer.new }
 {
     'causes: for cause in causes {
@@ -43,14 +43,14 @@ fn say_listed<W: Write>(causes: &[Cause], writer: &mut Writer<'_, W>) -> WriteRe
 
 /// Says the line of an event.
 fn say_event<W: Write>(event: Event, writer: &mut Writer<'_, W>) -> WriteResult
-    ensures { WritesExactly result (with_line_feed (step_command_line (acting_node event))) W.contents writer.old writer.new }
+    ensures { WritesExactly result (text_with_line_feed (step_command_line (own_or_writing_node event))) W.contents writer.old writer.new }
 {
-    writer.write_blocks(step_command_line(acting_node(event)).as_slice())
+    writer.write_blocks(step_command_line(own_or_writing_node(event)).as_slice())
 }
 
 /// The node that makes the event: of a pass the writer.
-fn acting_node(event: Event) -> NodeId
-    ensures { result ≡ acting_node event }
+fn own_or_writing_node(event: Event) -> NodeId
+    ensures { result ≡ own_or_writing_node event }
 {
     match event {
         Event::Own(node) => node,
@@ -60,7 +60,7 @@ fn acting_node(event: Event) -> NodeId
 
 /// Writes the lines of the history, each of whose events is looked up separately.
 fn say_unlisted<W: Write>(lab: &Lab, writer: &mut Writer<'_, W>) -> WriteResult
-    ensures { WritesSomeText result (λ text. text ≡ saved_text lab.now)
+    ensures { WritesSomeText result (λ text. text ≡ saved_session_text lab.now)
         W.contents writer.old writer.new }
 {
     'places: for place in 0..lab.counts().kept {
@@ -71,7 +71,7 @@ fn say_unlisted<W: Write>(lab: &Lab, writer: &mut Writer<'_, W>) -> WriteResult
 
 /// Says the line of the event at a place.
 fn say_step<W: Write>(lab: &Lab, place: u32, writer: &mut Writer<'_, W>) -> WriteResult
-    ensures { WritesSomeText result (λ text. text ≡ line_at (slice_get lab.now.kept place))
+    ensures { WritesSomeText result (λ text. text ≡ optional_event_line (slice_get lab.now.kept place))
         W.contents writer.old writer.new }
 {
     // So the history is the one that is written.
@@ -83,18 +83,18 @@ fn say_step<W: Write>(lab: &Lab, place: u32, writer: &mut Writer<'_, W>) -> Writ
 }
 
 /// The node whose step makes the event: of a pass the writer.
-fn actor(made: &Made) -> NodeId
-    ensures { result ≡ actor_in made.now }
+fn actor(made: &MadeEvent) -> NodeId
+    ensures { result ≡ acting_node_of_made_event made.now }
 {
     match made {
-        Made::Own { node, .. } => *node,
-        Made::Pass { writer, .. } => *writer,
+        MadeEvent::Own { node, .. } => *node,
+        MadeEvent::Pass { writer, .. } => *writer,
     }
 }
 
 /// `step NNN`
 fn step_command_line(node: NodeId) -> TextBuffer
-    ensures { result.items ≡ with_line_feed (step_command_line node) }
+    ensures { result.items ≡ text_with_line_feed (step_command_line node) }
 {
     let mut out = ArrayVec::new();
     push_text(&mut out, b"step ");

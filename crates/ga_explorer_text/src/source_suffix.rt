@@ -1,19 +1,19 @@
 //! What the source has for cells and slots, at the end of the lines that name them.
 
 ghost use Rattle.std.specs.Prelude.{◌≡◌, ◌≤◌};
-ghost use Rattle.ga_node.specs.Record.{record_of};
+ghost use Rattle.ga_node.specs.Record.{record_of_node};
 ghost use Rattle.ga_event.specs.Told.{count_steps};
 ghost use Rattle.ga_lab.specs.Machine.{node_at_step};
 ghost use Rattle.ga_provenance.specs.Origins.{node_after_steps};
 ghost use Rattle.ga_text.specs.Output.{WritesExactly};
-ghost use Rattle.ga_explorer_text.specs.SourceSuffix.{cell_note_text, slot_note_text as noted_slot_of, source_suffix_line, cell_of_node_part, given_place_of_part, never_set_text, loaded_suffix_text};
+ghost use Rattle.ga_explorer_text.specs.SourceSuffix.{cell_note_text, slot_note_text as noted_slot_of, source_suffix_line, cell_of_node_part, load_place_of_node_part, never_set_text, loaded_value_suffix_text};
 
 use ga_debug_info::DebugInfo;
 use ga_event::NodePart;
 use ga_grid::NodeId;
 use ga_lab::{Lab, NodeWalk};
-use ga_node::{Node, Place};
-use ga_provenance::{Value, fetched_cell_at};
+use ga_node::{Node, NodePlace};
+use ga_provenance::{PartValue, fetched_cell_at};
 use ga_text::{WriteResult, Writer};
 use std::io::Write;
 
@@ -25,7 +25,7 @@ pub fn cell_note_text(notes: &Option<DebugInfo>, node: NodeId, cell: Option<u8>)
     ensures { result.now ≡ cell_note_text notes.now node cell }
 {
     match notes {
-        Some(notes) => notes.text_of(node, cell),
+        Some(notes) => notes.cell_text(node, cell),
         None => &[],
     }
 }
@@ -41,7 +41,7 @@ pub fn slot_note_text(
 {
     match notes {
         Some(notes) => {
-            if notes.is_truncated(node, cell) {
+            if notes.is_cell_text_truncated(node, cell) {
                 notes.slot_text(node, cell, slot)
             } else {
                 &[]
@@ -63,16 +63,16 @@ pub fn cell_of_node_part(part: NodePart) -> Option<u8>
 }
 
 /// The place by which a part is given: that of T represents all parts that only an image of format 2 gives.
-pub fn given_place_of_part(part: NodePart) -> Place
-    ensures { result ≡ given_place_of_part part }
+pub fn load_place_of_node_part(part: NodePart) -> NodePlace
+    ensures { result ≡ load_place_of_node_part part }
 {
     match part {
-        NodePart::A => Place::A,
-        NodePart::B => Place::B,
-        NodePart::P => Place::P,
-        NodePart::Ram(cell) => Place::Ram(cell),
-        NodePart::Rom(cell) => Place::Rom(cell),
-        _ => Place::T,
+        NodePart::A => NodePlace::A,
+        NodePart::B => NodePlace::B,
+        NodePart::P => NodePlace::P,
+        NodePart::Ram(cell) => NodePlace::Ram(cell),
+        NodePart::Rom(cell) => NodePlace::Rom(cell),
+        _ => NodePlace::T,
     }
 }
 
@@ -82,7 +82,7 @@ fn never_set_text(notes: &Option<DebugInfo>, node: NodeId, part: NodePart) -> &'
 {
     match notes {
         Some(notes) => {
-            if notes.is_word_given(node, given_place_of_part(part)) {
+            if notes.is_word_given(node, load_place_of_node_part(part)) {
                 b""
             } else {
                 b", never set"
@@ -93,11 +93,11 @@ fn never_set_text(notes: &Option<DebugInfo>, node: NodeId, part: NodePart) -> &'
 }
 
 /// The slot of a node.
-#[tactic(auto, unfolding(ga_node::specs::Record::record_of))]
+#[tactic(auto, unfolding(ga_node::specs::Record::record_of_node))]
 fn slot_of(node: &Node) -> u32
-    ensures { result ≡ (record_of node.now).slot }
+    ensures { result ≡ (record_of_node node.now).slot }
 {
-    node.get(Place::Slot)
+    node.get(NodePlace::Slot)
 }
 
 /// Says what the source says of a slot of a cell, and ends the line.
@@ -122,14 +122,14 @@ fn say_loaded<W: Write>(
     part: NodePart,
     writer: &mut Writer<'_, W>,
 ) -> WriteResult
-    ensures { WritesExactly result (loaded_suffix_text notes.now node part) W.contents writer.old writer.new }
+    ensures { WritesExactly result (loaded_value_suffix_text notes.now node part) W.contents writer.old writer.new }
 {
     writer.write_blocks(never_set_text(notes, node, part))?;
     say_tail(notes, node, cell_of_node_part(part), FETCH, writer)
 }
 
 /// The slot of a node that is walked back to its first `place` steps.
-pub fn walked_slot(lab: &Lab, node: NodeId, place: u32, walk: &NodeWalk<'_>) -> u32
+pub fn slot_after_walk_back(lab: &Lab, node: NodeId, place: u32, walk: &NodeWalk<'_>) -> u32
     requires within { place ≤ count_steps node.number lab.now.kept }
     requires walk { walk.now ≡ node_at_step lab.now node place }
     ensures { result ≡ (node_after_steps lab.now node.number place).slot }
@@ -155,7 +155,7 @@ impl<'l> StepContext<'l> {
     ghost use Rattle.ga_text.specs.Output.{WritesExactly};
     ghost use Rattle.ga_provenance.specs.Fetched.{fetched_cell as cell_fetched};
     ghost use Rattle.ga_provenance.specs.Origins.{node_after_steps};
-    ghost use Rattle.ga_explorer_text.specs.SourceSuffix.{source_note_text, slot_before_step, step_suffix_text, value_suffix_text};
+    ghost use Rattle.ga_explorer_text.specs.SourceSuffix.{source_text_of_slot, slot_before_step, step_suffix_text, value_suffix_text};
 
     /// An outlook from a node that is walked back to its step.
     pub fn new(lab: &'l Lab, notes: &'l Option<DebugInfo>, node: NodeId, step: u32) -> Self
@@ -169,7 +169,7 @@ impl<'l> StepContext<'l> {
             lab,
             notes,
             node,
-            near: lab.walk(node, step),
+            near: lab.walk_node_from_step(node, step),
         }
     }
 
@@ -197,7 +197,7 @@ impl<'l> StepContext<'l> {
             walk.walk_back_to(place);
             walk
         } else {
-            self.lab.walk(node, place)
+            self.lab.walk_node_from_step(node, place)
         }
     }
 
@@ -206,7 +206,7 @@ impl<'l> StepContext<'l> {
         requires { place ≤ count_steps node.number self.now.lab.now.kept }
         ensures { result ≡ (node_after_steps self.now.lab.now node.number place).slot }
     {
-        walked_slot(self.lab, node, place, &self.walk_back_to_step(node, place))
+        slot_after_walk_back(self.lab, node, place, &self.walk_back_to_step(node, place))
     }
 
     /// The slot that was next before a step.
@@ -219,11 +219,11 @@ impl<'l> StepContext<'l> {
 
     /// The slot that was next before a step, if the source has slots of the cell; else that before a fetch.
     fn step_slot(&self, node: NodeId, step: u32, cell: Option<u8>) -> usize
-        ensures { source_note_text self.now.notes.now node cell result ≡ source_note_text self.now.notes.now node cell (slot_before_step self.now.lab.now node step) }
+        ensures { source_text_of_slot self.now.notes.now node cell result ≡ source_text_of_slot self.now.notes.now node cell (slot_before_step self.now.lab.now node step) }
     {
         match self.notes {
             Some(notes) => {
-                if notes.is_truncated(node, cell) {
+                if notes.is_cell_text_truncated(node, cell) {
                     self.before_step(node, step)
                 } else {
                     FETCH
@@ -235,8 +235,8 @@ impl<'l> StepContext<'l> {
 
     /// The cell from which the instruction word of a step was fetched, where the source says something of cells.
     fn step_cell(&self, node: NodeId, step: u32) -> Option<u8>
-        ensures { (slot : ℕ) → source_note_text self.now.notes.now node result slot
-            ≡ source_note_text self.now.notes.now node (cell_fetched self.now.lab.now node step) slot }
+        ensures { (slot : ℕ) → source_text_of_slot self.now.notes.now node result slot
+            ≡ source_text_of_slot self.now.notes.now node (cell_fetched self.now.lab.now node step) slot }
     {
         match self.notes {
             Some(notes) => {
@@ -271,7 +271,7 @@ impl<'l> StepContext<'l> {
     ///
     /// # Errors
     /// A write failed.
-    pub fn write_own_suffix<W: Write>(&self, writer: &mut Writer<'_, W>) -> WriteResult
+    pub fn write_current_step_suffix<W: Write>(&self, writer: &mut Writer<'_, W>) -> WriteResult
         ensures { WritesExactly result (step_suffix_text self.now.notes.now self.now.lab.now self.now.node self.now.near.step) W.contents writer.old writer.new }
     {
         self.write_step_suffix(self.node, self.near.step(), writer)
@@ -283,7 +283,7 @@ impl<'l> StepContext<'l> {
     /// A write failed.
     pub fn write_value_suffix<W: Write>(
         &self,
-        value: Value,
+        value: PartValue,
         writer: &mut Writer<'_, W>,
     ) -> WriteResult
         ensures { WritesExactly result (value_suffix_text self.now.notes.now self.now.lab.now value) W.contents writer.old writer.new }

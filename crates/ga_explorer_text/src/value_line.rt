@@ -1,11 +1,11 @@
 //! The text of a step with what it did, and of a value with the step that made it.
 
 ghost use Rattle.std.specs.Prelude.{◌≡◌, ◌≤◌, ◌+◌, ◌-◌, ◌++◌, codes, None};
-ghost use Rattle.ga_word.specs.Word.{hex6_of};
+ghost use Rattle.ga_word.specs.Word.{hex_digits_of_word};
 ghost use Rattle.ga_display.specs.Texts.{register_text};
 ghost use Rattle.arrayvec.specs.ArrayVec.{array_vec_len};
-ghost use Rattle.ga_explorer_text.specs.Whence.{transfer_result_text, op_result_text, own_event_result_text, step_result_text, loaded_value_text, value_with_word_text, queried_transfer_text, queried_value_text, step_action_text, line_number_text, run_count_text};
-ghost use Rattle.ga_lab.specs.Machine.{history_of};
+ghost use Rattle.ga_explorer_text.specs.Whence.{transfer_result_text, op_result_text, own_event_result_text, step_result_text, loaded_value_text, value_with_word_text, queried_value_of_transfer_text, queried_value_text, step_action_text, value_line_numbers_text, value_run_count_text};
+ghost use Rattle.ga_lab.specs.Machine.{history_of_node};
 ghost use Rattle.std.specs.List.{slice_get};
 
 use crate::deed_text::{MAX_ACTION_BYTES, push_action};
@@ -15,9 +15,9 @@ use crate::value_words::{MULTIPLY_STEP, ValueWords};
 use arrayvec::ArrayVec;
 use ga_event::NodePart;
 use ga_grid::NodeId;
-use ga_lab::{Lab, Made};
+use ga_lab::{Lab, MadeEvent};
 use ga_node::OwnEventKind;
-use ga_provenance::{ProvenanceLine, Value};
+use ga_provenance::{PartValue, ProvenanceLine};
 use ga_text::{
     MAX_STEP_BYTES, TextBuffer, WORD_DIGITS, push_node, push_spaced_word, push_step, push_text,
 };
@@ -46,10 +46,10 @@ pub(crate) fn queried_line(
     lab: &Lab,
     node: NodeId,
     step: u32,
-    value: Value,
+    value: PartValue,
     word: Word18,
 ) -> TextBuffer
-    ensures { result.items ≡ line_number_text 0 None ++ step_action_text lab.now node step ++ queried_value_text (slice_get (history_of lab.now node.number) (step - 1)) step value word }
+    ensures { result.items ≡ value_line_numbers_text 0 None ++ step_action_text lab.now node step ++ queried_value_text (slice_get (history_of_node lab.now node.number) (step - 1)) step value word }
 {
     let mut out = ArrayVec::new();
     push_line_number(&mut out, 0, None);
@@ -60,7 +60,7 @@ pub(crate) fn queried_line(
 }
 
 /// The step that made a value, or that it was loaded, with the value's word, two blanks deeper.
-pub(crate) fn indented_line(lab: &Lab, value: Value, words: ValueWords) -> TextBuffer
+pub(crate) fn indented_line(lab: &Lab, value: PartValue, words: ValueWords) -> TextBuffer
     ensures { result.items ≡ codes "  " ++ value_with_word_text lab.now value words.word words.a }
 {
     let mut out = ArrayVec::new();
@@ -77,7 +77,7 @@ pub(crate) fn numbered_line(
     line: ProvenanceLine,
     words: ValueWords,
 ) -> TextBuffer
-    ensures { result.items ≡ (line_number_text number user ++ value_with_word_text lab.now line.value words.word words.a) ++ run_count_text line.count }
+    ensures { result.items ≡ (value_line_numbers_text number user ++ value_with_word_text lab.now line.value words.word words.a) ++ value_run_count_text line.count }
 {
     let mut out = ArrayVec::new();
     push_line_number(&mut out, number, user);
@@ -87,7 +87,7 @@ pub(crate) fn numbered_line(
 }
 
 /// Adds the step that made a value, or that it was loaded, with the value's word.
-fn push_value_line(out: &mut TextBuffer, lab: &Lab, value: Value, words: ValueWords)
+fn push_value_line(out: &mut TextBuffer, lab: &Lab, value: PartValue, words: ValueWords)
     requires { array_vec_len out.old + MAX_VALUE_BYTES ≤ 256 }
     ensures text { out.new.items ≡ out.old.items ++ value_with_word_text lab.now value words.word words.a }
     ensures len { array_vec_len out.new ≤ array_vec_len out.old + MAX_VALUE_BYTES }
@@ -103,7 +103,7 @@ fn push_value_line(out: &mut TextBuffer, lab: &Lab, value: Value, words: ValueWo
 }
 
 /// Adds a loaded value, with its word.
-fn push_loaded(out: &mut TextBuffer, value: Value, word: Word18)
+fn push_loaded(out: &mut TextBuffer, value: PartValue, word: Word18)
     requires { array_vec_len out.old + MAX_VALUE_BYTES ≤ 256 }
     ensures text { out.new.items ≡ out.old.items ++ loaded_value_text value word }
     ensures len { array_vec_len out.new ≤ array_vec_len out.old + MAX_VALUE_BYTES }
@@ -128,21 +128,27 @@ fn push_did(out: &mut TextBuffer, lab: &Lab, node: NodeId, step: u32)
 }
 
 /// Adds the queried value of a step, but for the word that it sent.
-fn push_queried(out: &mut TextBuffer, made: Option<Made>, step: u32, value: Value, word: Word18)
+fn push_queried(
+    out: &mut TextBuffer,
+    made: Option<MadeEvent>,
+    step: u32,
+    value: PartValue,
+    word: Word18,
+)
     requires { array_vec_len out.old + MAX_NAMED_WORD_BYTES ≤ 256 }
     ensures { out.new.items ≡ out.old.items ++ queried_value_text made step value word }
 {
     match made {
-        Some(Made::Pass { .. }) => push_queried_of_transfer(out, step, value, word),
-        Some(Made::Own { .. }) => push_named_word(out, value.part, word),
+        Some(MadeEvent::Pass { .. }) => push_queried_of_transfer(out, step, value, word),
+        Some(MadeEvent::Own { .. }) => push_named_word(out, value.part, word),
         None => push_named_word(out, value.part, word),
     }
 }
 
 /// Adds the queried value of a transfer: one that its node has after it.
-fn push_queried_of_transfer(out: &mut TextBuffer, step: u32, value: Value, word: Word18)
+fn push_queried_of_transfer(out: &mut TextBuffer, step: u32, value: PartValue, word: Word18)
     requires { array_vec_len out.old + MAX_NAMED_WORD_BYTES ≤ 256 }
-    ensures { out.new.items ≡ out.old.items ++ queried_transfer_text step value word }
+    ensures { out.new.items ≡ out.old.items ++ queried_value_of_transfer_text step value word }
 {
     if value.step == step {
         push_named_word(out, value.part, word);
@@ -150,14 +156,14 @@ fn push_queried_of_transfer(out: &mut TextBuffer, step: u32, value: Value, word:
 }
 
 /// Adds the word that a step left in a part, but for a transferred one.
-fn push_left(out: &mut TextBuffer, made: Option<Made>, part: NodePart, words: ValueWords)
+fn push_left(out: &mut TextBuffer, made: Option<MadeEvent>, part: NodePart, words: ValueWords)
     requires { array_vec_len out.old + TWO_WORDS ≤ 256 }
     ensures text { out.new.items ≡ out.old.items ++ step_result_text made part words.word words.a }
     ensures len { array_vec_len out.new ≤ array_vec_len out.old + TWO_WORDS }
 {
     match made {
-        Some(Made::Pass { .. }) => push_beside_transfer(out, part, words.word),
-        Some(Made::Own { kind, .. }) => push_left_by_kind(out, kind, part, words),
+        Some(MadeEvent::Pass { .. }) => push_beside_transfer(out, part, words.word),
+        Some(MadeEvent::Own { kind, .. }) => push_left_by_kind(out, kind, part, words),
         None => push_spaced_word(out, words.word),
     }
 }
@@ -197,7 +203,7 @@ fn push_left_by_op(out: &mut TextBuffer, code: u8, part: NodePart, words: ValueW
 /// Adds a word, and A.
 fn push_t_and_a(out: &mut TextBuffer, words: ValueWords)
     requires { array_vec_len out.old + TWO_WORDS ≤ 256 }
-    ensures text { out.new.items ≡ out.old.items ++ ((codes " " ++ hex6_of words.word) ++ register_text (codes "a") words.a) }
+    ensures text { out.new.items ≡ out.old.items ++ ((codes " " ++ hex_digits_of_word words.word) ++ register_text (codes "a") words.a) }
     ensures len { array_vec_len out.new ≤ array_vec_len out.old + TWO_WORDS }
 {
     push_spaced_word(out, words.word);

@@ -2,19 +2,19 @@
 
 ghost use Rattle.std.specs.Prelude.{◌≡◌, ◌≤◌, ◌<◌, ◌-◌, ◌^◌, slice_index};
 ghost use Rattle.std.specs.List.{slice_get};
-ghost use Rattle.ga_node.specs.Record.{record_of};
-ghost use Rattle.ga_event.specs.Flow.{part_value};
+ghost use Rattle.ga_node.specs.Record.{record_of_node};
+ghost use Rattle.ga_event.specs.Flow.{node_part_value};
 ghost use Rattle.ga_event.specs.Told.{count_steps};
-ghost use Rattle.ga_lab.specs.Machine.{history_of, node_at_step};
+ghost use Rattle.ga_lab.specs.Machine.{history_of_node, node_at_step};
 ghost use Rattle.ga_provenance.specs.Origins.{is_made_with_a_or_carry, node_after_steps};
-ghost use Rattle.ga_explorer_text.specs.inner.{is_transferred, has_no_word};
+ghost use Rattle.ga_explorer_text.specs.inner.{is_transferred_part, has_only_transferred_word};
 
 use crate::source_suffix::StepContext;
 use ga_event::NodePart;
 use ga_grid::NodeId;
-use ga_lab::{Lab, Made, NodeWalk};
-use ga_node::{Node, OwnEventKind, Place};
-use ga_provenance::Value;
+use ga_lab::{Lab, MadeEvent, NodeWalk};
+use ga_node::{Node, NodePlace, OwnEventKind};
+use ga_provenance::PartValue;
 use ga_word::Word18;
 
 /// The code of `+*`.
@@ -31,57 +31,65 @@ pub(crate) struct ValueWords {
 }
 
 /// The word at a place of the data stack, 0 for T; 0 where there is none.
-#[tactic(auto, unfolding(ga_node::specs::Record::record_of))]
+#[tactic(auto, unfolding(ga_node::specs::Record::record_of_node))]
 fn data_word(node: &Node, place: u8) -> u32
-    ensures value { result ≡ slice_index (record_of node.now).d place }
+    ensures value { result ≡ slice_index (record_of_node node.now).d place }
     ensures fits { result < 2 ^ 18 }
 {
-    node.has_sizes();
-    if place < 10 { node.d(place) } else { 0 }
+    node.has_valid_list_sizes();
+    if place < 10 {
+        node.word_of_data_stack(place)
+    } else {
+        0
+    }
 }
 
 /// The word at a place of the return stack, 0 for R; 0 where there is none.
-#[tactic(auto, unfolding(ga_node::specs::Record::record_of))]
+#[tactic(auto, unfolding(ga_node::specs::Record::record_of_node))]
 fn return_word(node: &Node, place: u8) -> u32
-    ensures value { result ≡ slice_index (record_of node.now).r place }
+    ensures value { result ≡ slice_index (record_of_node node.now).r place }
     ensures fits { result < 2 ^ 18 }
 {
-    node.has_sizes();
-    if place < 9 { node.r(place) } else { 0 }
+    node.has_valid_list_sizes();
+    if place < 9 {
+        node.word_of_return_stack(place)
+    } else {
+        0
+    }
 }
 
 /// The word in a cell of RAM; 0 where there is none.
-#[tactic(auto, unfolding(ga_node::specs::Record::record_of))]
+#[tactic(auto, unfolding(ga_node::specs::Record::record_of_node))]
 fn ram_word(node: &Node, cell: u8) -> u32
-    ensures value { result ≡ slice_index (record_of node.now).ram cell }
+    ensures value { result ≡ slice_index (record_of_node node.now).ram cell }
     ensures fits { result < 2 ^ 18 }
 {
-    node.has_sizes();
+    node.has_valid_list_sizes();
     if cell < 64 {
-        node.get(Place::Ram(cell))
+        node.get(NodePlace::Ram(cell))
     } else {
         0
     }
 }
 
 /// The word in a cell of ROM; 0 where there is none.
-#[tactic(auto, unfolding(ga_node::specs::Record::record_of))]
+#[tactic(auto, unfolding(ga_node::specs::Record::record_of_node))]
 fn rom_word(node: &Node, cell: u8) -> u32
-    ensures value { result ≡ slice_index (record_of node.now).rom cell }
+    ensures value { result ≡ slice_index (record_of_node node.now).rom cell }
     ensures fits { result < 2 ^ 18 }
 {
-    node.has_sizes();
+    node.has_valid_list_sizes();
     if cell < 64 {
-        node.get(Place::Rom(cell))
+        node.get(NodePlace::Rom(cell))
     } else {
         0
     }
 }
 
 /// The word in a part of a node.
-#[tactic(auto, unfolding(ga_node::specs::Record::record_of))]
+#[tactic(auto, unfolding(ga_node::specs::Record::record_of_node))]
 fn part_word(node: &Node, part: NodePart) -> u32
-    ensures value { result ≡ part_value 0 (record_of node.now) part }
+    ensures value { result ≡ node_part_value 0 (record_of_node node.now) part }
     ensures fits { result < 2 ^ 18 }
 {
     match part {
@@ -89,21 +97,21 @@ fn part_word(node: &Node, part: NodePart) -> u32
         NodePart::Return(place) => return_word(node, place),
         NodePart::Ram(cell) => ram_word(node, cell),
         NodePart::Rom(cell) => rom_word(node, cell),
-        NodePart::A => node.get(Place::A),
-        NodePart::B => node.get(Place::B),
-        NodePart::P => node.get(Place::P),
-        NodePart::I => node.get(Place::I),
-        NodePart::Io => node.get(Place::Io),
-        NodePart::Carry => node.get(Place::Carry),
-        NodePart::Slot => node.get(Place::Slot),
-        NodePart::Wait => node.get(Place::Wait),
-        NodePart::Stop => node.get(Place::Stop),
-        NodePart::Outside => 0,
+        NodePart::A => node.get(NodePlace::A),
+        NodePart::B => node.get(NodePlace::B),
+        NodePart::P => node.get(NodePlace::P),
+        NodePart::I => node.get(NodePlace::I),
+        NodePart::Io => node.get(NodePlace::Io),
+        NodePart::Carry => node.get(NodePlace::Carry),
+        NodePart::Slot => node.get(NodePlace::Slot),
+        NodePart::Wait => node.get(NodePlace::Wait),
+        NodePart::Stop => node.get(NodePlace::Stop),
+        NodePart::OutsideWord => 0,
     }
 }
 
 /// The word in a part of a node that is walked back to its first `place` steps.
-pub fn word_after_walking_back(
+pub fn part_word_after_walk_back(
     lab: &Lab,
     node: NodeId,
     place: u32,
@@ -112,28 +120,28 @@ pub fn word_after_walking_back(
 ) -> Word18
     requires within { place ≤ count_steps node.number lab.now.kept }
     requires walk { walk.now ≡ node_at_step lab.now node place }
-    ensures { result ≡ part_value 0 (node_after_steps lab.now node.number place) part }
+    ensures { result ≡ node_part_value 0 (node_after_steps lab.now node.number place) part }
 {
     Word18::from_low_bits(part_word(walk.node(), part))
 }
 
 /// Whether the line of a value has no word but the transferred one.
-fn has_no_word(lab: &Lab, value: Value) -> bool
-    ensures { result ≡ has_no_word lab.now value }
+fn has_only_transferred_word(lab: &Lab, value: PartValue) -> bool
+    ensures { result ≡ has_only_transferred_word lab.now value }
 {
     if value.step == 0 {
         return false;
     }
     match lab.made_event_of_step(value.node, value.step - 1) {
-        Some(Made::Pass { .. }) => is_transferred(value.part),
-        Some(Made::Own { .. }) => false,
+        Some(MadeEvent::Pass { .. }) => is_transferred_part(value.part),
+        Some(MadeEvent::Own { .. }) => false,
         None => false,
     }
 }
 
 /// Whether a part gets the transferred word.
-fn is_transferred(part: NodePart) -> bool
-    ensures { result ≡ is_transferred part }
+fn is_transferred_part(part: NodePart) -> bool
+    ensures { result ≡ is_transferred_part part }
 {
     match part {
         NodePart::Data(place) => place == 0,
@@ -143,15 +151,15 @@ fn is_transferred(part: NodePart) -> bool
 }
 
 /// Whether the step of a value, as made, may have made T with A or the carry.
-fn is_made_with_a_or_carry(lab: &Lab, value: Value) -> bool
-    ensures { result ≡ is_made_with_a_or_carry (slice_get (history_of lab.now value.node.number) (value.step - 1)) }
+fn is_made_with_a_or_carry(lab: &Lab, value: PartValue) -> bool
+    ensures { result ≡ is_made_with_a_or_carry (slice_get (history_of_node lab.now value.node.number) (value.step - 1)) }
 {
     match lab.made_event_of_step(value.node, value.step.saturating_sub(1)) {
-        Some(Made::Own { kind, .. }) => match kind {
+        Some(MadeEvent::Own { kind, .. }) => match kind {
             OwnEventKind::Run(code) => code == MULTIPLY_STEP || code == PLUS,
             _ => false,
         },
-        Some(Made::Pass { .. }) => false,
+        Some(MadeEvent::Pass { .. }) => false,
         None => false,
     }
 }
@@ -159,13 +167,13 @@ fn is_made_with_a_or_carry(lab: &Lab, value: Value) -> bool
 impl<'l> StepContext<'l> {
     ghost use Rattle.std.specs.Prelude.{◌≡◌, ◌≤◌, ◌-◌, false};
     ghost use Rattle.std.specs.List.{slice_get};
-    ghost use Rattle.ga_event.specs.Flow.{IsNodePart};
-    ghost use Rattle.ga_lab.specs.Machine.{history_of};
+    ghost use Rattle.ga_event.specs.Flow.{IsNodePartInRange};
+    ghost use Rattle.ga_lab.specs.Machine.{history_of_node};
     ghost use Rattle.ga_provenance.specs.Origins.{is_made_with_a_or_carry, origin_of_value, IsMovedValue};
-    ghost use Rattle.ga_explorer_text.specs.Whence.{word_of_value, register_a_after_value, value_with_word_text, value_text};
+    ghost use Rattle.ga_explorer_text.specs.Whence.{word_of_value, register_a_after_making_step, value_with_word_text, value_origin_text};
 
     /// The context of the step of a value.
-    pub fn context_of_value(&self, value: Value) -> StepContext<'l>
+    pub fn context_of_value(&self, value: PartValue) -> StepContext<'l>
         ensures lab { result.lab.now ≡ self.now.lab.now }
         ensures notes { result.notes.now ≡ self.now.notes.now }
     {
@@ -209,19 +217,19 @@ impl<'l> StepContext<'l> {
 
     /// The context of where a value was used, if its line has a word that is read there: by the context of the line before, if that
     /// is of the same node and not earlier, else from here. For any other line the context of the line before.
-    pub fn context_of_use(
+    pub fn context_of_value_use(
         &self,
         last: StepContext<'l>,
-        value: Value,
-        used: Value,
+        value: PartValue,
+        used: PartValue,
     ) -> StepContext<'l>
         requires lab { last.lab.now ≡ self.now.lab.now }
         requires notes { last.notes.now ≡ self.now.notes.now }
         ensures lab { result.lab.now ≡ self.now.lab.now }
         ensures notes { result.notes.now ≡ self.now.notes.now }
     {
-        let Value { node, step, .. } = used;
-        if has_no_word(self.lab, value) {
+        let PartValue { node, step, .. } = used;
+        if has_only_transferred_word(self.lab, value) {
             last
         } else if last.node == node && step <= last.near.step() {
             last.walked_back_to(step)
@@ -231,47 +239,47 @@ impl<'l> StepContext<'l> {
     }
 
     /// Reads the words of a value. Takes time linear in the number of steps that its node is walked back.
-    pub fn words_of(&self, value: Value) -> ValueWords
+    pub fn words_of_value(&self, value: PartValue) -> ValueWords
         ensures word { result.word ≡ word_of_value self.now.lab.now value }
-        ensures a { result.a ≡ register_a_after_value self.now.lab.now value }
+        ensures a { result.a ≡ register_a_after_making_step self.now.lab.now value }
     {
-        let Value { node, step, part } = value;
+        let PartValue { node, step, part } = value;
         let place = step.min(self.lab.steps(node));
         let walk = self.walk_back_to_step(node, place);
         ValueWords {
-            word: word_after_walking_back(self.lab, node, place, &walk, part),
-            a: word_after_walking_back(self.lab, node, place, &walk, NodePart::A),
+            word: part_word_after_walk_back(self.lab, node, place, &walk, part),
+            a: part_word_after_walk_back(self.lab, node, place, &walk, NodePart::A),
         }
     }
 
     /// The word of a value that was only moved since the step that made it, unless this may have made T with it.
-    fn word_of_use(&self, used: Value) -> Word18
-        requires part { IsNodePart used.part }
-        requires apart { is_made_with_a_or_carry (slice_get (history_of self.now.lab.now used.node.number) ((origin_of_value self.now.lab.now used).step - 1)) ≡ false }
+    fn word_of_use(&self, used: PartValue) -> Word18
+        requires part { IsNodePartInRange used.part }
+        requires apart { is_made_with_a_or_carry (slice_get (history_of_node self.now.lab.now used.node.number) ((origin_of_value self.now.lab.now used).step - 1)) ≡ false }
         ensures { result ≡ word_of_value self.now.lab.now (origin_of_value self.now.lab.now used) }
     {
-        let Value { node, step, part } = used;
+        let PartValue { node, step, part } = used;
         // This is called only for its contract, that the chip has all its nodes.
         self.lab.chip().node(node);
         let place = step.min(self.lab.steps(node));
         let walk = self.walk_back_to_step(node, place);
-        walk.node().has_sizes();
-        word_after_walking_back(self.lab, node, place, &walk, part)
+        walk.node().has_valid_list_sizes();
+        part_word_after_walk_back(self.lab, node, place, &walk, part)
     }
 
     /// The words of the line of a value that was used there: it has the same word there, unless its step may have made T with it.
-    pub fn words_of_used(&self, value: Value, used: Value) -> ValueWords
+    pub fn words_of_value_at_its_use(&self, value: PartValue, used: PartValue) -> ValueWords
         requires { IsMovedValue self.now.lab.now value used }
-        ensures { value_with_word_text self.now.lab.now value result.word result.a ≡ value_text self.now.lab.now value }
+        ensures { value_with_word_text self.now.lab.now value result.word result.a ≡ value_origin_text self.now.lab.now value }
     {
         let none = Word18::from_low_bits(0);
-        if has_no_word(self.lab, value) {
+        if has_only_transferred_word(self.lab, value) {
             ValueWords {
                 word: none,
                 a: none,
             }
         } else if is_made_with_a_or_carry(self.lab, value) {
-            self.words_of(value)
+            self.words_of_value(value)
         } else {
             ValueWords {
                 word: self.word_of_use(used),

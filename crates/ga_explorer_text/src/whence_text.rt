@@ -2,12 +2,14 @@
 
 ghost use Rattle.std.specs.Prelude.{◌≡◌, drop, IfSome};
 ghost use Rattle.ga_text.specs.Output.{WritesSomeText};
-ghost use Rattle.ga_explorer_text.specs.Whence.{selected_value, IsWhenceAnswer};
-ghost use Rattle.ga_event.specs.Flow.{IsNodePart};
+ghost use Rattle.ga_explorer_text.specs.Whence.{named_or_selected_part_value, IsValueOriginsAnswer};
+ghost use Rattle.ga_event.specs.Flow.{IsNodePartInRange};
 ghost use Rattle.ga_lab.specs.Machine.{node_at_step};
-ghost use Rattle.ga_explorer_text.specs.inner.{is_first};
+ghost use Rattle.ga_explorer_text.specs.inner.{is_step_of_first_line};
 
-use crate::line_number::{has_queried_step_line, last_written_line, more_lines, using_line_number};
+use crate::line_number::{
+    has_queried_step_line, last_written_line_number, more_lines, using_line_number,
+};
 use crate::source_suffix::StepContext;
 use crate::value_line::{head_line, indented_line, numbered_line, queried_line};
 use ga_debug_info::DebugInfo;
@@ -15,7 +17,7 @@ use ga_display::{advised_refusal_text, missing_step_refusal};
 use ga_event::NodePart;
 use ga_grid::NodeId;
 use ga_lab::{Lab, LabFault, NodeWalk};
-use ga_provenance::{ProvenanceLine, Value, find_provenance_lines_at, queried_value_at};
+use ga_provenance::{PartValue, ProvenanceLine, find_provenance_lines_at, queried_value_at_walk};
 use ga_text::{WriteResult, Writer};
 use std::alloc::Global;
 use std::io::Write;
@@ -25,7 +27,7 @@ use std::io::Write;
 ///
 /// # Errors
 /// A write failed.
-pub fn write_whence<W: Write>(
+pub fn write_provenance_answer<W: Write>(
     alloc: Global,
     lab: &Lab,
     notes: &Option<DebugInfo>,
@@ -35,44 +37,44 @@ pub fn write_whence<W: Write>(
     first: u32,
     writer: &mut Writer<'_, W>,
 ) -> WriteResult
-    requires { IfSome part IsNodePart }
-    ensures { WritesSomeText result (IsWhenceAnswer notes.now lab.now node step part first) W.contents writer.old writer.new }
+    requires { IfSome part IsNodePartInRange }
+    ensures { WritesSomeText result (IsValueOriginsAnswer notes.now lab.now node step part first) W.contents writer.old writer.new }
 {
     if !lab.has_step((node, step)) {
         return writer.write_blocks(missing_step_refusal(node, lab.steps(node)).as_slice());
     }
     let here = StepContext::new(lab, notes, node, step);
-    match selected_value(lab, &here.near, node, part) {
+    match named_or_selected_part_value(lab, &here.near, node, part) {
         Some(value) => here.say_asked(alloc, value, first, writer),
         None => here.say_head(writer),
     }
 }
 
 /// The value of a part of a node where it is walked back to, or the one that its step selects where no part is named.
-pub fn selected_value(
+pub fn named_or_selected_part_value(
     lab: &Lab,
     near: &NodeWalk<'_>,
     node: NodeId,
     part: Option<NodePart>,
-) -> Option<Value>
-    requires part { IfSome part IsNodePart }
+) -> Option<PartValue>
+    requires part { IfSome part IsNodePartInRange }
     requires near { near.now ≡ node_at_step lab.now node near.now.step }
-    ensures value { result ≡ selected_value lab.now node near.now.step part }
-    ensures part { IfSome result (λ value. IsNodePart value.part) }
+    ensures value { result ≡ named_or_selected_part_value lab.now node near.now.step part }
+    ensures part { IfSome result (λ value. IsNodePartInRange value.part) }
 {
     match part {
-        Some(part) => Some(Value {
+        Some(part) => Some(PartValue {
             node,
             step: near.step(),
             part,
         }),
-        None => queried_value_at(lab, near, node),
+        None => queried_value_at_walk(lab, near, node),
     }
 }
 
 /// Whether the first of some lines is of this step.
-fn is_first(step: u32, lines: &[ProvenanceLine]) -> bool
-    ensures { result ≡ is_first step lines.now }
+fn is_step_of_first_line(step: u32, lines: &[ProvenanceLine]) -> bool
+    ensures { result ≡ is_step_of_first_line step lines.now }
 {
     match lines {
         [first, ..] => first.value.step == step,
@@ -81,7 +83,7 @@ fn is_first(step: u32, lines: &[ProvenanceLine]) -> bool
 }
 
 /// The lines after the first `skipped`.
-pub fn provenance_lines_after(lines: &[ProvenanceLine], skipped: u32) -> &[ProvenanceLine]
+pub fn skip_provenance_lines(lines: &[ProvenanceLine], skipped: u32) -> &[ProvenanceLine]
     ensures { result.now ≡ drop skipped lines.now }
 {
     let skipped = lines.len().min(skipped as usize);
@@ -90,23 +92,23 @@ pub fn provenance_lines_after(lines: &[ProvenanceLine], skipped: u32) -> &[Prove
 
 impl<'l> StepContext<'l> {
     ghost use Rattle.std.specs.Prelude.{◌≡◌, ◌+◌, ◌^◌, ◌<◌, not, Some, All, length};
-    ghost use Rattle.ga_event.specs.Flow.{IsNodePart};
+    ghost use Rattle.ga_event.specs.Flow.{IsNodePartInRange};
     ghost use Rattle.ga_text.specs.Output.{WritesSomeText, WritesExactly};
-    ghost use Rattle.ga_explorer_text.specs.Whence.{optional_queried_step_line, value_line_text, numbered_lines_text, provenance_lines_text_from, indented_value_text, queried_step_text, IsStepOrLinesAnswer};
+    ghost use Rattle.ga_explorer_text.specs.Whence.{optional_queried_step_line, value_line_text, numbered_provenance_lines_text, provenance_lines_text_from, indented_value_text, queried_step_text, IsStepOrProvenanceAnswer};
     ghost use Rattle.ga_provenance.specs.Lines.{IsLineOfMovedValue};
     ghost use Rattle.ga_provenance.specs.Origins.{IsMovedValue};
-    ghost use Rattle.ga_explorer_text.specs.inner.{is_first};
+    ghost use Rattle.ga_explorer_text.specs.inner.{is_step_of_first_line};
 
     /// Writes the lines of a value for the step to which its node is walked back.
     fn say_asked<W: Write>(
         &self,
         alloc: Global,
-        value: Value,
+        value: PartValue,
         first: u32,
         writer: &mut Writer<'_, W>,
     ) -> WriteResult
-        requires { IsNodePart value.part }
-        ensures { WritesSomeText result (λ text. IsStepOrLinesAnswer self.now.notes.now self.now.lab.now self.now.node self.now.near.step first (Some value) text)
+        requires { IsNodePartInRange value.part }
+        ensures { WritesSomeText result (λ text. IsStepOrProvenanceAnswer self.now.notes.now self.now.lab.now self.now.node self.now.near.step first (Some value) text)
             W.contents writer.old writer.new }
     {
         match find_provenance_lines_at(
@@ -115,7 +117,7 @@ impl<'l> StepContext<'l> {
             &self.near,
             self.node,
             value,
-            last_written_line(first),
+            last_written_line_number(first),
         ) {
             Ok(found) => {
                 let lines = found.lines.as_slice();
@@ -130,20 +132,20 @@ impl<'l> StepContext<'l> {
     /// Says those of some lines that are written from line `first` on, and line 0 before the first.
     fn say_found<W: Write>(
         &self,
-        value: Value,
+        value: PartValue,
         first: u32,
         lines: &[ProvenanceLine],
         writer: &mut Writer<'_, W>,
     ) -> WriteResult
         requires most { length lines.now < 2 ^ 32 }
         requires used { All (IsLineOfMovedValue self.now.lab.now) lines.now }
-        ensures { WritesSomeText result (λ text. text ≡ provenance_lines_text_from self.now.notes.now self.now.lab.now self.now.node self.now.near.step first value (not (is_first self.now.near.step lines.now)) lines.now)
+        ensures { WritesSomeText result (λ text. text ≡ provenance_lines_text_from self.now.notes.now self.now.lab.now self.now.node self.now.near.step first value (not (is_step_of_first_line self.now.near.step lines.now)) lines.now)
             W.contents writer.old writer.new }
     {
-        let is_moved = !is_first(self.near.step(), lines);
+        let is_moved = !is_step_of_first_line(self.near.step(), lines);
         self.say_queried(value, has_queried_step_line(is_moved, first), writer)?;
         let skipped = first.saturating_sub(1);
-        let written = provenance_lines_after(lines, skipped);
+        let written = skip_provenance_lines(lines, skipped);
         let root = self.root(lines);
         root.say_lines(self.copy(), is_moved, skipped, written, writer)
     }
@@ -151,7 +153,7 @@ impl<'l> StepContext<'l> {
     /// Says the step asked for, to which its node is walked back, with the queried value, if this is written.
     fn say_queried<W: Write>(
         &self,
-        value: Value,
+        value: PartValue,
         is_written: bool,
         writer: &mut Writer<'_, W>,
     ) -> WriteResult
@@ -161,10 +163,10 @@ impl<'l> StepContext<'l> {
         if !is_written {
             return Ok(());
         }
-        let word = self.words_of(value).word;
+        let word = self.words_of_value(value).word;
         let line = queried_line(self.lab, self.node, self.near.step(), value, word);
         writer.write_blocks(line.as_slice())?;
-        self.write_own_suffix(writer)
+        self.write_current_step_suffix(writer)
     }
 
     /// Says the step asked for, to which its node is walked back.
@@ -173,7 +175,7 @@ impl<'l> StepContext<'l> {
             W.contents writer.old writer.new }
     {
         writer.write_blocks(head_line(self.lab, self.node, self.near.step()).as_slice())?;
-        self.write_own_suffix(writer)
+        self.write_current_step_suffix(writer)
     }
 
     /// The context of the step of the first line's value, or this one where there are fewer than two lines.
@@ -201,12 +203,12 @@ impl<'l> StepContext<'l> {
         requires notes { start.notes.now ≡ self.now.notes.now }
         requires most { skipped + length lines.now < 2 ^ 32 }
         requires used { All (IsLineOfMovedValue self.now.lab.now) lines.now }
-        ensures { WritesSomeText result (λ text. text ≡ numbered_lines_text self.now.notes.now self.now.lab.now is_moved skipped lines.now) W.contents writer.old writer.new }
+        ensures { WritesSomeText result (λ text. text ≡ numbered_provenance_lines_text self.now.notes.now self.now.lab.now is_moved skipped lines.now) W.contents writer.old writer.new }
     {
         let mut here = start;
         let mut number = skipped;
         'lines: for line in lines {
-            here = self.context_of_use(here, line.value, line.used);
+            here = self.context_of_value_use(here, line.value, line.used);
             number += 1;
             here.write_line(number, is_moved, *line, writer)?;
         }
@@ -224,23 +226,23 @@ impl<'l> StepContext<'l> {
         requires { IsLineOfMovedValue self.now.lab.now line }
         ensures { WritesExactly result (value_line_text self.now.notes.now self.now.lab.now is_moved number line) W.contents writer.old writer.new }
     {
-        let words = self.words_of_used(line.value, line.used);
+        let words = self.words_of_value_at_its_use(line.value, line.used);
         let user = using_line_number(is_moved, number, line.user);
         writer.write_blocks(numbered_line(self.lab, number, user, line, words).as_slice())?;
         self.write_value_suffix(line.value, writer)
     }
 
     /// Says the line of a value without numbers, two blanks deeper.
-    pub fn write_source_line<W: Write>(
+    pub fn write_indented_value_line<W: Write>(
         &self,
-        value: Value,
-        used: Value,
+        value: PartValue,
+        used: PartValue,
         writer: &mut Writer<'_, W>,
     ) -> WriteResult
         requires { IsMovedValue self.now.lab.now value used }
         ensures { WritesExactly result (indented_value_text self.now.notes.now self.now.lab.now value) W.contents writer.old writer.new }
     {
-        let words = self.words_of_used(value, used);
+        let words = self.words_of_value_at_its_use(value, used);
         writer.write_blocks(indented_line(self.lab, value, words).as_slice())?;
         self.write_value_suffix(value, writer)
     }

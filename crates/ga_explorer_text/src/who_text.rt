@@ -3,11 +3,11 @@
 ghost use Rattle.std.specs.Prelude.{◌≡◌, ◌++◌, ◌+◌, ◌≤◌, ◌&&◌, not, if◌then◌else◌, length};
 ghost use Rattle.arrayvec.specs.ArrayVec.{array_vec_len};
 ghost use Rattle.ga_grid.specs.Grid.{optional_node_number};
-ghost use Rattle.ga_grid.specs.Chip.{records_of};
-ghost use Rattle.ga_causal.specs.Dependence.{is_marked};
+ghost use Rattle.ga_grid.specs.Chip.{records_of_chip};
+ghost use Rattle.ga_causal.specs.Dependence.{is_node_flagged};
 ghost use Rattle.ga_text.specs.Output.{WritesSomeText, WritesExactly};
-ghost use Rattle.ga_explorer_text.specs.Waiting.{activity_name, node_activity_text, neighbour_activity_text, awaited_neighbour_text, waiting_node_line, waiting_node_text, non_idle_node_text, all_waiting_text, name_if_marked, non_idle_names, node_count, idle_count_suffix, stuck_line, stuck_text, ended_line, idle_line, ended_and_idle_text};
-ghost use Rattle.ga_explorer_text.specs.Telling.{IsWhoAnswer};
+ghost use Rattle.ga_explorer_text.specs.Waiting.{activity_name, node_activity_text, neighbour_activity_text, awaited_neighbour_text, waiting_node_line, waiting_node_text, waiting_non_idle_node_text, all_waiting_nodes_text, space_and_node_name_if_marked, non_idle_node_names, count_passing_nodes, idle_count_suffix, deadlocked_nodes_line, deadlocked_nodes_text, ended_nodes_line, idle_nodes_line, ended_and_idle_nodes_text};
+ghost use Rattle.ga_explorer_text.specs.Telling.{IsWaitingNodesAnswer};
 
 use super::ended::{find_ended_marked_nodes, find_live_nodes};
 use super::ring_text::write_wait_cycles;
@@ -16,7 +16,7 @@ use ga_grid::{Chip, NodeId, neighbour};
 use ga_lab::Lab;
 use ga_node::{Node, Wait};
 use ga_ports::Side;
-use ga_races::{awaits, find_deadlocked};
+use ga_races::{awaits_side, find_deadlocked_nodes};
 use ga_scheduler::find_idle_nodes;
 use ga_text::{
     MAX_NUMBER_DIGITS, TextBuffer, WriteResult, Writer, push_node, push_number, push_text,
@@ -61,22 +61,22 @@ type RestLines = ArrayVec<u8, REST_ROOM>;
 ///
 /// # Errors
 /// A write failed.
-pub fn write_who<W: Write>(lab: &Lab, writer: &mut Writer<'_, W>) -> WriteResult
-    ensures { WritesSomeText result (IsWhoAnswer lab.now) W.contents writer.old writer.new }
+pub fn write_waiting_nodes<W: Write>(lab: &Lab, writer: &mut Writer<'_, W>) -> WriteResult
+    ensures { WritesSomeText result (IsWaitingNodesAnswer lab.now) W.contents writer.old writer.new }
 {
     let chip = lab.chip();
-    let stuck = find_deadlocked(chip);
+    let stuck = find_deadlocked_nodes(chip);
     let ended = find_ended_marked_nodes(&stuck, &find_live_nodes(chip));
     let idle = find_idle_nodes(lab);
     say_waiting(chip, &idle, writer)?;
-    writer.write_blocks(stuck_line(&stuck, &ended, &idle).as_slice())?;
+    writer.write_blocks(deadlocked_nodes_line(&stuck, &ended, &idle).as_slice())?;
     write_wait_cycles(chip, &stuck, writer)?;
     writer.write_blocks(rest_lines(&ended, &idle).as_slice())
 }
 
 /// Says the lines of the nodes that wait and are not idle.
 fn say_waiting<W: Write>(chip: &Chip, idle: &[bool; 144], writer: &mut Writer<'_, W>) -> WriteResult
-    ensures { WritesSomeText result (λ text. text ≡ all_waiting_text (records_of chip.now) (is_marked idle.now))
+    ensures { WritesSomeText result (λ text. text ≡ all_waiting_nodes_text (records_of_chip chip.now) (is_node_flagged idle.now))
         W.contents writer.old writer.new }
 {
     'nodes: for number in 0..144u8 {
@@ -92,14 +92,14 @@ fn say_node<W: Write>(
     node: NodeId,
     writer: &mut Writer<'_, W>,
 ) -> WriteResult
-    ensures { WritesExactly result (non_idle_node_text (records_of chip.now) (is_marked idle.now) node.number) W.contents writer.old writer.new }
+    ensures { WritesExactly result (waiting_non_idle_node_text (records_of_chip chip.now) (is_node_flagged idle.now) node.number) W.contents writer.old writer.new }
 {
     writer.write_blocks(busy_line(chip, idle, node).as_slice())
 }
 
 /// The line of a node that waits, where it is not idle.
 fn busy_line(chip: &Chip, idle: &[bool; 144], node: NodeId) -> TextBuffer
-    ensures { result.items ≡ non_idle_node_text (records_of chip.now) (is_marked idle.now) node.number }
+    ensures { result.items ≡ waiting_non_idle_node_text (records_of_chip chip.now) (is_node_flagged idle.now) node.number }
 {
     if idle[node.index()] {
         ArrayVec::new()
@@ -110,7 +110,7 @@ fn busy_line(chip: &Chip, idle: &[bool; 144], node: NodeId) -> TextBuffer
 
 /// The line of a node that waits: what it does, and of each neighbour that it awaits the side, the name and what that one does.
 fn waiting_line(chip: &Chip, node: NodeId) -> TextBuffer
-    ensures { result.items ≡ waiting_node_text (records_of chip.now) node.number }
+    ensures { result.items ≡ waiting_node_text (records_of_chip chip.now) node.number }
 {
     match chip.node(node).wait() {
         Wait::Nothing => ArrayVec::new(),
@@ -121,7 +121,7 @@ fn waiting_line(chip: &Chip, node: NodeId) -> TextBuffer
 }
 
 fn awaiting_line(chip: &Chip, node: NodeId) -> TextBuffer
-    ensures { result.items ≡ waiting_node_line (records_of chip.now) node.number }
+    ensures { result.items ≡ waiting_node_line (records_of_chip chip.now) node.number }
 {
     let mut out = ArrayVec::new();
     push_node(&mut out, node);
@@ -138,7 +138,7 @@ fn awaiting_line(chip: &Chip, node: NodeId) -> TextBuffer
 /// Adds what a node does.
 fn push_does(out: &mut TextBuffer, chip: &Chip, node: NodeId)
     requires { array_vec_len out.old + DOING_ROOM ≤ 256 }
-    ensures text { out.new.items ≡ out.old.items ++ node_activity_text (records_of chip.now) node.number }
+    ensures text { out.new.items ≡ out.old.items ++ node_activity_text (records_of_chip chip.now) node.number }
     ensures len { array_vec_len out.new ≤ array_vec_len out.old + DOING_ROOM }
 {
     let at = chip.node(node);
@@ -168,10 +168,10 @@ fn push_doing(out: &mut TextBuffer, wait: Wait, stop: u8)
 /// Adds the neighbour on a side, where the node awaits it.
 fn push_awaited(out: &mut TextBuffer, chip: &Chip, node: NodeId, side: Side, letter: u8)
     requires { array_vec_len out.old + BESIDE_ROOM ≤ 256 }
-    ensures text { out.new.items ≡ out.old.items ++ awaited_neighbour_text (records_of chip.now) node.number side letter }
+    ensures text { out.new.items ≡ out.old.items ++ awaited_neighbour_text (records_of_chip chip.now) node.number side letter }
     ensures len { array_vec_len out.new ≤ array_vec_len out.old + BESIDE_ROOM }
 {
-    if awaits(&chip.node(node).wait(), side) {
+    if awaits_side(&chip.node(node).wait(), side) {
         push_beside(out, chip, neighbour(node, side), letter);
     }
 }
@@ -179,7 +179,7 @@ fn push_awaited(out: &mut TextBuffer, chip: &Chip, node: NodeId, side: Side, let
 /// Adds a neighbour, where there is one.
 fn push_beside(out: &mut TextBuffer, chip: &Chip, beside: Option<NodeId>, letter: u8)
     requires { array_vec_len out.old + BESIDE_ROOM ≤ 256 }
-    ensures text { out.new.items ≡ out.old.items ++ neighbour_activity_text (records_of chip.now) (optional_node_number beside) letter }
+    ensures text { out.new.items ≡ out.old.items ++ neighbour_activity_text (records_of_chip chip.now) (optional_node_number beside) letter }
     ensures len { array_vec_len out.new ≤ array_vec_len out.old + BESIDE_ROOM }
 {
     if let Some(other) = beside {
@@ -191,11 +191,11 @@ fn push_beside(out: &mut TextBuffer, chip: &Chip, beside: Option<NodeId>, letter
 }
 
 /// The line of the deadlocked nodes, where there are any that have not ended.
-fn stuck_line(marks: &[bool; 144], ended: &[bool; 144], idle: &[bool; 144]) -> StuckLine
-    ensures { result.items ≡ stuck_text (is_marked marks.now) (is_marked ended.now) (is_marked idle.now) }
+fn deadlocked_nodes_line(marks: &[bool; 144], ended: &[bool; 144], idle: &[bool; 144]) -> StuckLine
+    ensures { result.items ≡ deadlocked_nodes_text (is_node_flagged marks.now) (is_node_flagged ended.now) (is_node_flagged idle.now) }
 {
     line_of_names(
-        non_idle_names(marks, ended).as_slice(),
+        non_idle_node_names(marks, ended).as_slice(),
         count_idle_marked_nodes(marks, idle),
     )
 }
@@ -203,7 +203,7 @@ fn stuck_line(marks: &[bool; 144], ended: &[bool; 144], idle: &[bool; 144]) -> S
 /// The line of these names and the number of idle nodes.
 fn line_of_names(names: &[u8], idle: u8) -> StuckLine
     requires { length names.now ≤ NAMES_ROOM }
-    ensures { result.items ≡ stuck_line names.now idle }
+    ensures { result.items ≡ deadlocked_nodes_line names.now idle }
 {
     let mut out = ArrayVec::new();
     if !names.is_empty() {
@@ -229,8 +229,8 @@ fn push_idle(out: &mut StuckLine, idle: u8)
 }
 
 /// The names of the marked nodes that are not among the others, each after a space.
-fn non_idle_names(marks: &[bool; 144], idle: &[bool; 144]) -> Names
-    ensures { result.items ≡ non_idle_names (is_marked marks.now) (is_marked idle.now) }
+fn non_idle_node_names(marks: &[bool; 144], idle: &[bool; 144]) -> Names
+    ensures { result.items ≡ non_idle_node_names (is_node_flagged marks.now) (is_node_flagged idle.now) }
 {
     let mut out = ArrayVec::new();
     'nodes: for number in 0..144u8 {
@@ -242,7 +242,7 @@ fn non_idle_names(marks: &[bool; 144], idle: &[bool; 144]) -> Names
 
 /// Whether a node is marked and not idle.
 fn is_busy(marks: &[bool; 144], idle: &[bool; 144], node: NodeId) -> bool
-    ensures { result ≡ (is_marked marks.now node.number && not (is_marked idle.now node.number)) }
+    ensures { result ≡ (is_node_flagged marks.now node.number && not (is_node_flagged idle.now node.number)) }
 {
     marks[node.index()] && !idle[node.index()]
 }
@@ -250,7 +250,7 @@ fn is_busy(marks: &[bool; 144], idle: &[bool; 144], node: NodeId) -> bool
 /// Adds a node's name after a space, if it is to be named.
 fn push_name_if(out: &mut Names, node: NodeId, named: bool)
     requires { array_vec_len out.old + NAME_ROOM ≤ NAMES_ROOM }
-    ensures text { out.new.items ≡ out.old.items ++ name_if_marked named node.number }
+    ensures text { out.new.items ≡ out.old.items ++ space_and_node_name_if_marked named node.number }
     ensures len { array_vec_len out.new ≤ array_vec_len out.old + NAME_ROOM }
 {
     if named {
@@ -261,7 +261,7 @@ fn push_name_if(out: &mut Names, node: NodeId, named: bool)
 
 /// How many of the marked nodes are idle.
 pub fn count_idle_marked_nodes(marks: &[bool; 144], idle: &[bool; 144]) -> u8
-    ensures { result ≡ node_count (λ n. is_marked marks.now n && is_marked idle.now n) 144 }
+    ensures { result ≡ count_passing_nodes (λ n. is_node_flagged marks.now n && is_node_flagged idle.now n) 144 }
 {
     let mut count = 0;
     'nodes: for number in 0..144u8 {
@@ -272,14 +272,14 @@ pub fn count_idle_marked_nodes(marks: &[bool; 144], idle: &[bool; 144]) -> u8
 
 /// Whether a node is marked and idle.
 fn is_both(marks: &[bool; 144], idle: &[bool; 144], node: NodeId) -> bool
-    ensures { result ≡ (is_marked marks.now node.number && is_marked idle.now node.number) }
+    ensures { result ≡ (is_node_flagged marks.now node.number && is_node_flagged idle.now node.number) }
 {
     marks[node.index()] && idle[node.index()]
 }
 
 /// How many nodes are idle.
-pub fn idle_count(idle: &[bool; 144]) -> u8
-    ensures { result ≡ node_count (is_marked idle.now) 144 }
+pub fn count_idle_nodes(idle: &[bool; 144]) -> u8
+    ensures { result ≡ count_passing_nodes (is_node_flagged idle.now) 144 }
 {
     let mut count = 0;
     'nodes: for number in 0..144u8 {
@@ -290,7 +290,7 @@ pub fn idle_count(idle: &[bool; 144]) -> u8
 
 /// Whether a node is idle.
 fn is_idle(idle: &[bool; 144], node: NodeId) -> bool
-    ensures { result ≡ is_marked idle.now node.number }
+    ensures { result ≡ is_node_flagged idle.now node.number }
 {
     idle[node.index()]
 }
@@ -305,15 +305,18 @@ fn one_if(holds: bool) -> u8
 
 /// The last lines: which nodes have ended, and how many are idle.
 fn rest_lines(ended: &[bool; 144], idle: &[bool; 144]) -> RestLines
-    ensures { result.items ≡ ended_and_idle_text (is_marked ended.now) (is_marked idle.now) }
+    ensures { result.items ≡ ended_and_idle_nodes_text (is_node_flagged ended.now) (is_node_flagged idle.now) }
 {
-    rest_of_names(non_idle_names(ended, idle).as_slice(), idle_count(idle))
+    rest_of_names(
+        non_idle_node_names(ended, idle).as_slice(),
+        count_idle_nodes(idle),
+    )
 }
 
 /// The line of these names, and that of the number of idle nodes.
 fn rest_of_names(names: &[u8], idle: u8) -> RestLines
     requires { length names.now ≤ NAMES_ROOM }
-    ensures { result.items ≡ ended_line names.now ++ idle_line idle }
+    ensures { result.items ≡ ended_nodes_line names.now ++ idle_nodes_line idle }
 {
     let mut out = ArrayVec::new();
     if !names.is_empty() {
@@ -328,7 +331,7 @@ fn rest_of_names(names: &[u8], idle: u8) -> RestLines
 /// Adds the line with the number of idle nodes, where there are some.
 fn push_count(out: &mut RestLines, idle: u8)
     requires { array_vec_len out.old + IDLE_LINE_ROOM ≤ REST_ROOM }
-    ensures { out.new.items ≡ out.old.items ++ idle_line idle }
+    ensures { out.new.items ≡ out.old.items ++ idle_nodes_line idle }
 {
     if idle > 0 {
         push_text(out, b"idle ");

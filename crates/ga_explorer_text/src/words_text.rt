@@ -2,7 +2,7 @@
 
 ghost use Rattle.std.specs.Prelude.{◌≡◌};
 ghost use Rattle.ga_text.specs.Output.{WritesSomeText, WritesExactly};
-ghost use Rattle.ga_explorer_text.specs.Texts.{transfer_line_text, words_head, transfers_text, link_words_text};
+ghost use Rattle.ga_explorer_text.specs.Texts.{transfer_line_text, link_words_head_line, transfers_text, link_words_text};
 
 use arrayvec::ArrayVec;
 use ga_grid::NodeId;
@@ -69,7 +69,7 @@ fn say_sent<W: Write>(
 
 /// The link, and how many words of it are kept.
 fn head_line(from: NodeId, to: NodeId, count: u32) -> TextBuffer
-    ensures { result.items ≡ words_head from to count }
+    ensures { result.items ≡ link_words_head_line from to count }
 {
     let mut out = ArrayVec::new();
     push_text(&mut out, b"words ");

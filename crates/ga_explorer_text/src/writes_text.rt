@@ -3,7 +3,7 @@
 ghost use Rattle.std.specs.Prelude.{◌≡◌, ◌<◌, Some};
 ghost use Rattle.ga_text.specs.Output.{WritesSomeText};
 ghost use Rattle.ga_event.specs.Told.{count_steps};
-ghost use Rattle.ga_explorer_text.specs.Writing.{cell_write_text, cell_writes, writes_text};
+ghost use Rattle.ga_explorer_text.specs.Writing.{cell_write_text, cell_writes_lines, cell_writes_answer_text};
 
 use crate::deed_text::push_action;
 use arrayvec::ArrayVec;
@@ -23,7 +23,7 @@ pub fn write_cell_writes<W: Write>(
     address: u8,
     writer: &mut Writer<'_, W>,
 ) -> WriteResult
-    ensures { WritesSomeText result (λ text. text ≡ writes_text lab.now node address) W.contents writer.old writer.new }
+    ensures { WritesSomeText result (λ text. text ≡ cell_writes_answer_text lab.now node address) W.contents writer.old writer.new }
 {
     if address < 128 {
         say_cell(lab, node, address % 64, writer)
@@ -35,7 +35,7 @@ pub fn write_cell_writes<W: Write>(
 /// Says the steps that wrote a cell of RAM.
 fn say_cell<W: Write>(lab: &Lab, node: NodeId, cell: u8, writer: &mut Writer<'_, W>) -> WriteResult
     requires { cell < 64 }
-    ensures { WritesSomeText result (λ text. text ≡ cell_writes lab.now node cell (count_steps node.number lab.now.kept))
+    ensures { WritesSomeText result (λ text. text ≡ cell_writes_lines lab.now node cell (count_steps node.number lab.now.kept))
         W.contents writer.old writer.new }
 {
     let mut writes = CellWrites::new(lab, node, cell);

@@ -3,24 +3,24 @@ use Rattle.std.proofs.Common.{◌≡◌, ◌≢◌, ℕ, ◌<◌, arith, Option,
 use Rattle.std.specs.Prelude.{Some, option_map}
 use Rattle.ga_ports.specs.declared.side.Side.{Side}
 use Rattle.ga_ports.specs.declared.side.Side.TheVariants.{Right, Down, Left, Up}
-use Rattle.ga_grid.specs.Grid.{neighbour_of, optional_node_number, node_id}
+use Rattle.ga_grid.specs.Grid.{neighbour_number, optional_node_number, node_id}
 use Rattle.std.proofs.Math.Bridge.{le_prop}
 use Rattle.std.proofs.Math.Nat.{mod-eq_of_lt}
 use Rattle.ga_grid.specs.declared.node_id.NodeId.{NodeId}
 
 -- ---- A link leads back, and never to its own node
 
-pub neighbour_of-back : (n m : ℕ) (side : Side) → n < 144 → neighbour_of n side ≡ Some m → neighbour_of m side ≡ Some n
-neighbour_of-back n m Right l h = grind arith
-neighbour_of-back n m Down l h = grind arith
-neighbour_of-back n m Left l h = grind arith
-neighbour_of-back n m Up l h = grind arith
+pub neighbour_number-back : (n m : ℕ) (side : Side) → n < 144 → neighbour_number n side ≡ Some m → neighbour_number m side ≡ Some n
+neighbour_number-back n m Right l h = grind arith
+neighbour_number-back n m Down l h = grind arith
+neighbour_number-back n m Left l h = grind arith
+neighbour_number-back n m Up l h = grind arith
 
-pub neighbour_of-other : (n m : ℕ) (side : Side) → neighbour_of n side ≡ Some m → m ≢ n
-neighbour_of-other n m Right h = grind arith
-neighbour_of-other n m Down h = grind arith
-neighbour_of-other n m Left h = grind arith
-neighbour_of-other n m Up h = grind arith
+pub neighbour_number-other : (n m : ℕ) (side : Side) → neighbour_number n side ≡ Some m → m ≢ n
+neighbour_number-other n m Right h = grind arith
+neighbour_number-other n m Down h = grind arith
+neighbour_number-other n m Left h = grind arith
+neighbour_number-other n m Up h = grind arith
 
 abbrev node : (n : ℕ) → n < 144 → NodeId
 node n l = record { number = n; in_range = l }

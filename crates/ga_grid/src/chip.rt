@@ -2,10 +2,10 @@
 
 ghost use Rattle.std.specs.Prelude.{◌≡◌, ◌<◌, ◌^◌};
 ghost use Rattle.std.specs.Borrow.{sem};
-ghost use Rattle.ga_grid.specs.Grid.{linked_side_value, load_p_of};
+ghost use Rattle.ga_grid.specs.Grid.{linked_side_value, initial_p_of_node};
 
 use crate::link::neighbour;
-use crate::node_id::{CHIP_NODES, NodeId};
+use crate::node_id::{CHIP_NODE_COUNT, NodeId};
 use ga_node::Node;
 use ga_ports::Side;
 use std::alloc::{AllocError, AllocFailed, Global};
@@ -15,17 +15,17 @@ use thiserror::Error;
 /// Out of memory.
 #[derive(Clone, Copy, Debug, PartialEq, Eq, Error)]
 #[error("no memory")]
-pub struct Memory;
+pub struct OutOfMemoryError;
 
-impl From<AllocError> for Memory {
+impl From<AllocError> for OutOfMemoryError {
     fn from(_refused: AllocError) -> Self {
-        Memory
+        OutOfMemoryError
     }
 }
 
-impl<T: Drop> From<AllocFailed<T>> for Memory {
+impl<T: Drop> From<AllocFailed<T>> for OutOfMemoryError {
     fn from(_refused: AllocFailed<T>) -> Self {
-        Memory
+        OutOfMemoryError
     }
 }
 
@@ -51,15 +51,15 @@ fn linked(node: NodeId, side: Side) -> u32
     ensures { result ≡ linked_side_value node.number side }
 {
     if neighbour(node, side).is_some() {
-        side.bit() as u32
+        side.bit_in_set() as u32
     } else {
         0
     }
 }
 
 /// P of a node at load: the address that names the ports of all sides on which it has a neighbour.
-pub fn load_p(node: NodeId) -> u32
-    ensures value { result ≡ load_p_of node.number }
+pub fn initial_p(node: NodeId) -> u32
+    ensures value { result ≡ initial_p_of_node node.number }
     ensures in_range { result < 2 ^ 10 }
 {
     let sides = linked(node, Side::Right)
@@ -78,12 +78,12 @@ impl Chip {
     ///
     /// # Errors
     /// [`Memory`] alone, where memory was refused.
-    pub fn new(alloc: Global) -> Result<Self, Memory>
+    pub fn new(alloc: Global) -> Result<Self, OutOfMemoryError>
         ensures { IfOk result (λ chip. chip ≡ default_chip) }
     {
-        let mut nodes = Vec::with_capacity(alloc, CHIP_NODES)?;
-        for number in 0..CHIP_NODES as u8 {
-            nodes.push(Node::new(load_p(NodeId::new(number))))?;
+        let mut nodes = Vec::with_capacity(alloc, CHIP_NODE_COUNT)?;
+        for number in 0..CHIP_NODE_COUNT as u8 {
+            nodes.push(Node::new(initial_p(NodeId::new(number))))?;
         }
         Ok(Chip { nodes })
     }

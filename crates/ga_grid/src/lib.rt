@@ -6,7 +6,7 @@ mod link;
 mod name;
 mod node_id;
 
-pub use chip::{Chip, Memory, load_p};
+pub use chip::{Chip, OutOfMemoryError, initial_p};
 pub use link::neighbour;
-pub use name::{decimal_digit, parse_node_name};
-pub use node_id::{CHIP_NODES, NodeId};
+pub use name::{decimal_digit, parse_decimal_name};
+pub use node_id::{CHIP_NODE_COUNT, NodeId};

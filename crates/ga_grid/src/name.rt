@@ -1,7 +1,7 @@
 //! The names of the nodes as texts.
 
 ghost use Rattle.std.specs.Prelude.{◌≡◌, ◌<◌, IfSome};
-ghost use Rattle.ga_grid.specs.Grid.{decimal_digit, parse_node_name};
+ghost use Rattle.ga_grid.specs.Grid.{decimal_digit, parse_decimal_name};
 
 /// The value of a decimal digit.
 pub fn decimal_digit(byte: u8) -> Option<u32>
@@ -14,11 +14,11 @@ pub fn decimal_digit(byte: u8) -> Option<u32>
     }
 }
 
-/// The row and the column of a node, as three decimal digits. `NodeId::from_yxx` returns the node, if there is one.
-#[tactic(auto, unfolding(crate::specs::Grid::parse_node_name))]
-pub fn parse_node_name(text: &[u8]) -> Option<u32>
-    ensures value { result ≡ parse_node_name text.now }
-    ensures in_range { IfSome result (λ yxx. yxx < 1000) }
+/// The row and the column of a node, as three decimal digits. `NodeId::from_decimal_name` returns the node, if there is one.
+#[tactic(auto, unfolding(crate::specs::Grid::parse_decimal_name))]
+pub fn parse_decimal_name(text: &[u8]) -> Option<u32>
+    ensures value { result ≡ parse_decimal_name text.now }
+    ensures in_range { IfSome result (λ decimal_name. decimal_name < 1000) }
 {
     match text {
         [row, tens, ones] => {

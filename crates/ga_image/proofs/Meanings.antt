@@ -8,15 +8,15 @@ use Rattle.std.proofs.lemmas.List.{get_or-set_same, get_or-set_other}
 use Rattle.std.proofs.lemmas.Map.Keys.{IsDistinct-cons, IsDistinct-head, IsDistinct-tail}
 use Rattle.std.specs.Prelude.{nat_lt}
 use Rattle.ga_node.specs.Record.{NodeState}
-use Rattle.ga_grid.specs.Grid.{number_of_yxx, yxx_of, default_chip}
+use Rattle.ga_grid.specs.Grid.{node_number_of_name, decimal_name_of_node, default_chip}
 use Rattle.ga_image.specs.declared.field.Field.{Field}
 use Rattle.ga_image.specs.declared.field.Field.TheVariants.{A, B, P, I, Io, Carry, Slot, Wait, Stop, Data, Return, Ram, Rom}
 use Rattle.ga_image.specs.declared.field.Format.{Format}
 use Rattle.ga_image.specs.declared.fault.ImageFault.{ImageFault}
-use Rattle.ga_image.specs.Reading.{ImageReadProgress, ImageReadStage, Header, Open, Ended, form_in_format, result_of_lines, first_fault_of_line, line_fault, fault_after_header, progress_after_line, progress_after_stage, progress_after_form, result_at_image_end, fault_or_result, with_field_writes, with_field_write, field_line_fault, with_block, node_fault, node_of_stage, initial_progress, no_fields_given}
+use Rattle.ga_image.specs.Reading.{ImageReadProgress, ImageReadStage, Header, Open, Ended, form_in_format, read_result_of_lines, first_fault_of_line, line_fault, fault_after_header, progress_after_line, progress_after_line_at_stage, progress_after_line_form, result_at_image_end, fault_or_result, progress_with_field_writes, progress_after_field_write, field_line_fault, progress_with_block, node_line_fault, block_node_of_stage, initial_read_progress, no_fields_given}
 use Rattle.ga_image.specs.Spelling.{LineForm, Node, Words, End}
-use Rattle.ga_image.specs.Fields.{field_writes, has_repeated_field, field_number, exceeds_field, greatest_field_word, load_run_state, run_state_after, is_inconsistent_state}
-use Rattle.ga_image.specs.Grammar.{field_line_form, field_line_writes, IsWithinField, IsFieldLine, header, Block, block_forms, IsBlock, chip_with_words, chip_with_blocks, IsImage}
+use Rattle.ga_image.specs.Fields.{fields_with_words, has_repeated_field, field_number, row_exceeds_bank, greatest_field_word, run_state_at_load, run_state_after_words, is_inconsistent_run_state}
+use Rattle.ga_image.specs.Grammar.{field_line_form, field_line_writes, IsRowWithinBank, IsFieldLineInRange, header_of_format, NodeBlock, line_forms_of_block, IsBlockOfGridNode, chip_with_words, chip_with_blocks, IsImage}
 use Rattle.ga_image.proofs.Short.{short_spelled}
 use Rattle.ga_image.proofs.Spellings.{kept_spelled, forms_read}
 use Rattle.ga_image.specs.declared.field.Format.TheVariants.{One, Two}
@@ -95,21 +95,21 @@ or_assoc false y z = refl
 -- reading, of what the lines mean
 abbrev pub reads : ImageReadProgress → ℕ → List LineForm → Result (List NodeState) ImageFault
 reads progress line [] = result_at_image_end progress.stage progress.chip line
-reads progress line (f ∷ forms) = fault_or_result (fault_after_header progress (Some f)) line (reads (progress_after_form progress (Some f)) (line + 1) forms)
+reads progress line (f ∷ forms) = fault_or_result (fault_after_header progress (Some f)) line (reads (progress_after_line_form progress (Some f)) (line + 1) forms)
 
 -- words keep the stage
-pub stage_kept : (progress : ImageReadProgress) (ws : List (Field × ℕ)) → (with_field_writes progress ws).stage ≡ progress.stage
+pub stage_kept : (progress : ImageReadProgress) (ws : List (Field × ℕ)) → (progress_with_field_writes progress ws).stage ≡ progress.stage
 stage_kept progress [] = refl
-stage_kept progress (w ∷ ws) = stage_kept (with_field_write progress w) ws
+stage_kept progress (w ∷ ws) = stage_kept (progress_after_field_write progress w) ws
 
-begun : (progress : ImageReadProgress) (node : Option ℕ) → progress.stage ≢ Header → (with_block progress node).stage ≢ Header
+begun : (progress : ImageReadProgress) (node : Option ℕ) → progress.stage ≢ Header → (progress_with_block progress node).stage ≢ Header
 begun progress None later = later
 begun progress (Some node) later = λ e. cc
 
 -- after the header no line leads back to it
-pub still_later : (progress : ImageReadProgress) (f : LineForm) → progress.stage ≢ Header → (progress_after_form progress (Some f)).stage ≢ Header
-still_later progress (Node yxx) later = begun progress (number_of_yxx yxx) later
-still_later progress (Words field words) later = rw (stage_kept progress (field_writes field words)) later
+pub still_later : (progress : ImageReadProgress) (f : LineForm) → progress.stage ≢ Header → (progress_after_line_form progress (Some f)).stage ≢ Header
+still_later progress (Node decimal_name) later = begun progress (node_number_of_name decimal_name) later
+still_later progress (Words field words) later = rw (stage_kept progress (fields_with_words field words)) later
 still_later progress End later = λ e. cc
 
 -- after the header a line is read by its form
@@ -120,7 +120,7 @@ line_later (stage.Block node) progress text later = refl
 line_later Ended progress text later = refl
 
 -- and so is what it leads to
-pub past_later : (stage : ImageReadStage) (progress : ImageReadProgress) (text : List ℕ) → stage ≢ Header → progress_after_stage stage progress text ≡ progress_after_form progress (form_in_format progress.format text)
+pub past_later : (stage : ImageReadStage) (progress : ImageReadProgress) (text : List ℕ) → stage ≢ Header → progress_after_line_at_stage stage progress text ≡ progress_after_line_form progress (form_in_format progress.format text)
 past_later Header progress text later = absurd (later refl)
 past_later Open progress text later = refl
 past_later (stage.Block node) progress text later = refl
@@ -132,28 +132,28 @@ unfolding first_fault_of_line
 short_fault progress text small = let no : nat_lt 200 (length text) ≡ false = grind (arith, nat_tests) in rw no refl
 
 -- what a line leads to depends on the stage
-pub short_past : (progress : ImageReadProgress) (text : List ℕ) → progress_after_line progress text ≡ progress_after_stage progress.stage progress text
+pub short_past : (progress : ImageReadProgress) (text : List ℕ) → progress_after_line progress text ≡ progress_after_line_at_stage progress.stage progress text
 unfolding progress_after_line
 short_past progress text = refl
 
 -- after the header the format is unchanged
-words_format : (progress : ImageReadProgress) (ws : List (Field × ℕ)) → (with_field_writes progress ws).format ≡ progress.format
+words_format : (progress : ImageReadProgress) (ws : List (Field × ℕ)) → (progress_with_field_writes progress ws).format ≡ progress.format
 words_format progress [] = refl
-words_format progress (w ∷ ws) = words_format (with_field_write progress w) ws
+words_format progress (w ∷ ws) = words_format (progress_after_field_write progress w) ws
 
-block_format : (progress : ImageReadProgress) (node : Option ℕ) → (with_block progress node).format ≡ progress.format
+block_format : (progress : ImageReadProgress) (node : Option ℕ) → (progress_with_block progress node).format ≡ progress.format
 block_format progress None = refl
 block_format progress (Some node) = refl
 
-pub same_format : (progress : ImageReadProgress) (f : LineForm) → (progress_after_form progress (Some f)).format ≡ progress.format
-same_format progress (Node yxx) = block_format progress (number_of_yxx yxx)
-same_format progress (Words field words) = words_format progress (field_writes field words)
+pub same_format : (progress : ImageReadProgress) (f : LineForm) → (progress_after_line_form progress (Some f)).format ≡ progress.format
+same_format progress (Node decimal_name) = block_format progress (node_number_of_name decimal_name)
+same_format progress (Words field words) = words_format progress (fields_with_words field words)
 same_format progress End = refl
 
 -- lines are read as their forms are
 pub reading_forms : (forms : List LineForm) (lines : List (List ℕ)) (progress : ImageReadProgress) (format : Format) (line : ℕ) → progress.stage ≢ Header → progress.format ≡ format
-    → map (form_in_format format) lines ≡ map (λ f. Some f) forms → result_of_lines progress line lines ≡ reads progress line forms
-unfolding result_of_lines
+    → map (form_in_format format) lines ≡ map (λ f. Some f) forms → read_result_of_lines progress line lines ≡ reads progress line forms
+unfolding read_result_of_lines
 reading_forms [] [] progress format line later is same = refl
 reading_forms [] (text ∷ lines) progress format line later is same = cc
 reading_forms (f ∷ forms) [] progress format line later is same = cc
@@ -163,8 +163,8 @@ reading_forms (f ∷ forms) (text ∷ lines) progress format line later is same 
     let others : map (form_in_format format) lines ≡ map (λ f. Some f) forms = cc in
     let short = short_spelled text f (kept_spelled format text f meaning).0 in
     let fault = short_fault progress text short ∙ line_later progress.stage progress text later ∙ ap (fault_after_header progress) here in
-    let past = short_past progress text ∙ past_later progress.stage progress text later ∙ ap (progress_after_form progress) here in
-    let again = reading_forms forms lines (progress_after_form progress (Some f)) format (line + 1) (still_later progress f later) (same_format progress f ∙ is) others in
+    let past = short_past progress text ∙ past_later progress.stage progress text later ∙ ap (progress_after_line_form progress) here in
+    let again = reading_forms forms lines (progress_after_line_form progress (Some f)) format (line + 1) (still_later progress f later) (same_format progress f ∙ is) others in
     rw (fault, past, again) refl
 
 -- what words that are written leave marked
@@ -178,17 +178,17 @@ has_repeated_field-append given [] ys = refl
 has_repeated_field-append given (x ∷ xs) ys = rw (has_repeated_field-append (set given (field_number x.0) true) xs ys) (or_assoc (get_or given (field_number x.0) false) _ _)
 
 -- the fields that words mark as given
-pub given_marked : (progress : ImageReadProgress) (ws : List (Field × ℕ)) → (with_field_writes progress ws).given ≡ marked progress.given ws
+pub given_marked : (progress : ImageReadProgress) (ws : List (Field × ℕ)) → (progress_with_field_writes progress ws).given ≡ marked progress.given ws
 given_marked progress [] = refl
-given_marked progress (w ∷ ws) = given_marked (with_field_write progress w) ws
+given_marked progress (w ∷ ws) = given_marked (progress_after_field_write progress w) ws
 
 -- words of several lines are written one after the other
-pub with_field_writes-append : (progress : ImageReadProgress) (xs ys : List (Field × ℕ)) → with_field_writes progress (xs ++ ys) ≡ with_field_writes (with_field_writes progress xs) ys
-with_field_writes-append progress [] ys = refl
-with_field_writes-append progress (x ∷ xs) ys = with_field_writes-append (with_field_write progress x) xs ys
+pub progress_with_field_writes-append : (progress : ImageReadProgress) (xs ys : List (Field × ℕ)) → progress_with_field_writes progress (xs ++ ys) ≡ progress_with_field_writes (progress_with_field_writes progress xs) ys
+progress_with_field_writes-append progress [] ys = refl
+progress_with_field_writes-append progress (x ∷ xs) ys = progress_with_field_writes-append (progress_after_field_write progress x) xs ys
 
 -- the tests of a field line pass
-pub in_memory : (field : Field) (count : ℕ) → IsWithinField field count → exceeds_field field count ≡ false
+pub in_memory : (field : Field) (count : ℕ) → IsRowWithinBank field count → row_exceeds_bank field count ≡ false
 in_memory A count fits = refl
 in_memory B count fits = refl
 in_memory P count fits = refl
@@ -210,23 +210,23 @@ all_small most (word ∷ words) small =
     let here : nat_lt most word ≡ false = let h = small.0 in grind (arith, nat_tests) in
     rw here (all_small most words small.1)
 
-field_passes : (progress : ImageReadProgress) (node : ℕ) (field : Field) (words : List ℕ) → progress.stage ≡ stage.Block node → IsFieldLine (field, words) → has_repeated_field progress.given (field_writes field words) ≡ false → fault_after_header progress (Some (Words field words)) ≡ None
+field_passes : (progress : ImageReadProgress) (node : ℕ) (field : Field) (words : List ℕ) → progress.stage ≡ stage.Block node → IsFieldLineInRange (field, words) → has_repeated_field progress.given (fields_with_words field words) ≡ false → fault_after_header progress (Some (Words field words)) ≡ None
 unfolding field_line_fault
 field_passes progress node field words block is once = rw (block, in_memory field (length words) is.0, all_small (greatest_field_word field) words is.1, once) refl
 
 -- the field lines of a block, read one after the other
-pub fields_read : (field_lines : List (Field × List ℕ)) (progress : ImageReadProgress) (node line : ℕ) (rest : List LineForm) → progress.stage ≡ stage.Block node → AllByRecursion IsFieldLine field_lines → has_repeated_field progress.given (field_line_writes field_lines) ≡ false
-    → reads progress line (map field_line_form field_lines ++ rest) ≡ reads (with_field_writes progress (field_line_writes field_lines)) (line + length field_lines) rest
+pub fields_read : (field_lines : List (Field × List ℕ)) (progress : ImageReadProgress) (node line : ℕ) (rest : List LineForm) → progress.stage ≡ stage.Block node → AllByRecursion IsFieldLineInRange field_lines → has_repeated_field progress.given (field_line_writes field_lines) ≡ false
+    → reads progress line (map field_line_form field_lines ++ rest) ≡ reads (progress_with_field_writes progress (field_line_writes field_lines)) (line + length field_lines) rest
 fields_read [] progress node line rest block each once = rw add-zero refl
 fields_read (field_line ∷ field_lines) progress node line rest block each once =
-    let split = sym (has_repeated_field-append progress.given (field_writes field_line.0 field_line.1) (field_line_writes field_lines)) ∙ once in
-    let parts = or_false (has_repeated_field progress.given (field_writes field_line.0 field_line.1)) (has_repeated_field (marked progress.given (field_writes field_line.0 field_line.1)) (field_line_writes field_lines)) split in
+    let split = sym (has_repeated_field-append progress.given (fields_with_words field_line.0 field_line.1) (field_line_writes field_lines)) ∙ once in
+    let parts = or_false (has_repeated_field progress.given (fields_with_words field_line.0 field_line.1)) (has_repeated_field (marked progress.given (fields_with_words field_line.0 field_line.1)) (field_line_writes field_lines)) split in
     let none = field_passes progress node field_line.0 field_line.1 block each.0 parts.0 in
-    let next = with_field_writes progress (field_writes field_line.0 field_line.1) in
-    let again = fields_read field_lines next node (line + 1) rest (stage_kept progress (field_writes field_line.0 field_line.1) ∙ block) each.1
-    (ap (λ g. has_repeated_field g (field_line_writes field_lines)) (given_marked progress (field_writes field_line.0 field_line.1)) ∙ parts.1) in
+    let next = progress_with_field_writes progress (fields_with_words field_line.0 field_line.1) in
+    let again = fields_read field_lines next node (line + 1) rest (stage_kept progress (fields_with_words field_line.0 field_line.1) ∙ block) each.1
+    (ap (λ g. has_repeated_field g (field_line_writes field_lines)) (given_marked progress (fields_with_words field_line.0 field_line.1)) ∙ parts.1) in
     let counted : line + 1 + length field_lines ≡ line + suc (length field_lines) = omega arith in
-    rw (none, again, with_field_writes-append progress (field_writes field_line.0 field_line.1) (field_line_writes field_lines), counted) refl
+    rw (none, again, progress_with_field_writes-append progress (fields_with_words field_line.0 field_line.1) (field_line_writes field_lines), counted) refl
 
 -- ---- what the grammar has is read
 
@@ -240,7 +240,7 @@ repeats_numbers flags [] = refl
 repeats_numbers flags (w ∷ ws) = rw (repeats_numbers (set flags (field_number w.0) true) ws) refl
 
 -- the numbers of fields within a memory
-pub field_below : (field : Field) (words : List ℕ) → IsWithinField field (length words) → AreBelow 156 (numbers (field_writes field words))
+pub field_below : (field : Field) (words : List ℕ) → IsRowWithinBank field (length words) → AreBelow 156 (numbers (fields_with_words field words))
 field_below field [] fits = tt
 field_below A (word ∷ words) fits = (omega arith, field_below A words fits)
 field_below B (word ∷ words) fits = (omega arith, field_below B words fits)
@@ -261,69 +261,69 @@ below-append [] ys p q = q
 below-append (x ∷ xs) ys p q = (p.0, below-append xs ys p.1 q)
 
 -- and those of a whole block
-pub fields_below : (field_lines : List (Field × List ℕ)) → AllByRecursion IsFieldLine field_lines → AreBelow 156 (numbers (field_line_writes field_lines))
+pub fields_below : (field_lines : List (Field × List ℕ)) → AllByRecursion IsFieldLineInRange field_lines → AreBelow 156 (numbers (field_line_writes field_lines))
 fields_below [] each = tt
-fields_below (field_line ∷ field_lines) each = below-append (field_writes field_line.0 field_line.1) (field_line_writes field_lines) (field_below field_line.0 field_line.1 each.0.0) (fields_below field_lines each.1)
+fields_below (field_line ∷ field_lines) each = below-append (fields_with_words field_line.0 field_line.1) (field_line_writes field_lines) (field_below field_line.0 field_line.1 each.0.0) (fields_below field_lines each.1)
 
 -- the state after words that are written one after the other
-pub all_written : (progress : ImageReadProgress) (ws : List (Field × ℕ)) → with_field_writes progress ws ≡ record progress { given = marked progress.given ws; held = run_state_after progress.held ws; chip = chip_with_words (node_of_stage progress.stage) progress.chip ws }
+pub all_written : (progress : ImageReadProgress) (ws : List (Field × ℕ)) → progress_with_field_writes progress ws ≡ record progress { given = marked progress.given ws; held = run_state_after_words progress.held ws; chip = chip_with_words (block_node_of_stage progress.stage) progress.chip ws }
 all_written progress [] = refl
-all_written progress (w ∷ ws) = all_written (with_field_write progress w) ws
+all_written progress (w ∷ ws) = all_written (progress_after_field_write progress w) ws
 
 -- a block or the end may come, and the block before is consistent
 abbrev pub IsReady : ImageReadProgress → Type 0
-IsReady progress = (progress.stage ≡ stage.Open) ⊎ ((node : ℕ) × (progress.stage ≡ stage.Block node) × (is_inconsistent_state progress.held ≡ false))
+IsReady progress = (progress.stage ≡ stage.Open) ⊎ ((node : ℕ) × (progress.stage ≡ stage.Block node) × (is_inconsistent_run_state progress.held ≡ false))
 
 end_passes : (progress : ImageReadProgress) → IsReady progress → fault_after_header progress (Some End) ≡ None
 end_passes progress (inl is) = rw is refl
 end_passes progress (inr (node, is, steady)) = rw (is, steady) refl
 
-node_passes : (progress : ImageReadProgress) (n : ℕ) → IsReady progress → n < 144 → get_or progress.blocks n false ≡ false → fault_after_header progress (Some (Node (yxx_of n))) ≡ None
-unfolding node_fault
+node_passes : (progress : ImageReadProgress) (n : ℕ) → IsReady progress → n < 144 → get_or progress.blocks n false ≡ false → fault_after_header progress (Some (Node (decimal_name_of_node n))) ≡ None
+unfolding node_line_fault
 node_passes progress n (inl is) small free = rw (is, node_of_yxx n small, free) refl
 node_passes progress n (inr (node, is, steady)) small free = rw (is, steady, node_of_yxx n small, free) refl
 
 -- blocks without fault are read, up to the end
-pub blocks_read : (blocks : List Block) (progress : ImageReadProgress) (line : ℕ) → IsReady progress → length progress.blocks ≡ 144 → AllByRecursion IsBlock blocks → seen_twice progress.blocks (map (λ b. b.node) blocks) ≡ false
-    → reads progress line (flat_map block_forms blocks ++ End ∷ []) ≡ Ok (chip_with_blocks progress.chip blocks)
+pub blocks_read : (blocks : List NodeBlock) (progress : ImageReadProgress) (line : ℕ) → IsReady progress → length progress.blocks ≡ 144 → AllByRecursion IsBlockOfGridNode blocks → seen_twice progress.blocks (map (λ b. b.node) blocks) ≡ false
+    → reads progress line (flat_map line_forms_of_block blocks ++ End ∷ []) ≡ Ok (chip_with_blocks progress.chip blocks)
 blocks_read [] progress line ready size each once = rw (end_passes progress ready) refl
 blocks_read (block ∷ blocks) progress line ready size each once =
     let parts = or_false (get_or progress.blocks block.node false) _ once in
     let none = node_passes progress block.node ready each.0.node parts.0 in
-    let begun : ImageReadProgress = record progress { stage = stage.Block block.node; blocks = set progress.blocks block.node true; given = no_fields_given; held = load_run_state } in
-    let is : progress_after_form progress (Some (Node (yxx_of block.node))) ≡ begun = ap (with_block progress) (node_of_yxx block.node each.0.node) in
+    let begun : ImageReadProgress = record progress { stage = stage.Block block.node; blocks = set progress.blocks block.node true; given = no_fields_given; held = run_state_at_load } in
+    let is : progress_after_line_form progress (Some (Node (decimal_name_of_node block.node))) ≡ begun = ap (progress_with_block progress) (node_of_yxx block.node each.0.node) in
     let below = fields_below block.field_lines each.0.field_lines in
     let free : has_repeated_field no_fields_given (field_line_writes block.field_lines) ≡ false =
     repeats_numbers no_fields_given (field_line_writes block.field_lines)
     ∙ apart_once no_fields_given (numbers (field_line_writes block.field_lines)) below (all_free 156 _) each.0.apart in
-    let done : ImageReadProgress = record begun { given = marked no_fields_given (field_line_writes block.field_lines); held = run_state_after load_run_state (field_line_writes block.field_lines); chip = chip_with_words block.node progress.chip (field_line_writes block.field_lines) } in
+    let done : ImageReadProgress = record begun { given = marked no_fields_given (field_line_writes block.field_lines); held = run_state_after_words run_state_at_load (field_line_writes block.field_lines); chip = chip_with_words block.node progress.chip (field_line_writes block.field_lines) } in
     let after = all_written begun (field_line_writes block.field_lines) in
-    let field_lines = fields_read block.field_lines begun block.node (line + 1) (flat_map block_forms blocks ++ End ∷ []) refl each.0.field_lines free in
+    let field_lines = fields_read block.field_lines begun block.node (line + 1) (flat_map line_forms_of_block blocks ++ End ∷ []) refl each.0.field_lines free in
     let rest = blocks_read blocks done (line + 1 + length block.field_lines) (inr (block.node, refl, each.0.steady)) (length-set progress.blocks block.node true ∙ size) each.1 parts.1 in
-    let regroup = append_assoc (map field_line_form block.field_lines) (flat_map block_forms blocks) (End ∷ []) in
+    let regroup = append_assoc (map field_line_form block.field_lines) (flat_map line_forms_of_block blocks) (End ∷ []) in
     rw (none, is, regroup, field_lines, after) rest
 
 -- the nodes of blocks are nodes of the grid
-pub nodes_below : (blocks : List Block) → AllByRecursion IsBlock blocks → AreBelow 144 (map (λ b. b.node) blocks)
+pub nodes_below : (blocks : List NodeBlock) → AllByRecursion IsBlockOfGridNode blocks → AreBelow 144 (map (λ b. b.node) blocks)
 nodes_below [] each = tt
 nodes_below (block ∷ blocks) each = (each.0.node, nodes_below blocks each.1)
 
 -- the state after the header
 abbrev pub opened : Format → ImageReadProgress
-opened format = record initial_progress { format = format; stage = stage.Open }
+opened format = record initial_read_progress { format = format; stage = stage.Open }
 
-header_passes : (format : Format) (lines : List (List ℕ)) → result_of_lines initial_progress 1 (header format ∷ lines) ≡ result_of_lines (opened format) 2 lines
-unfolding result_of_lines first_fault_of_line progress_after_line initial_progress
+header_passes : (format : Format) (lines : List (List ℕ)) → read_result_of_lines initial_read_progress 1 (header_of_format format ∷ lines) ≡ read_result_of_lines (opened format) 2 lines
+unfolding read_result_of_lines first_fault_of_line progress_after_line initial_read_progress
 header_passes One lines = refl
 header_passes Two lines = refl
 
 -- the fields of that state
 pub opened_ready : (format : Format) → ((opened format).stage ≡ stage.Open) × (length (opened format).blocks ≡ 144) × ((opened format).chip ≡ default_chip) × ((opened format).blocks ≡ replicate 144 false)
-unfolding initial_progress
+unfolding initial_read_progress
 opened_ready format = (refl, refl, refl, refl)
 
 -- an image is read
-pub image_read : (texts : List (List ℕ)) (chip : List NodeState) → IsImage texts chip → result_of_lines initial_progress 1 texts ≡ Ok chip
+pub image_read : (texts : List (List ℕ)) (chip : List NodeState) → IsImage texts chip → read_result_of_lines initial_read_progress 1 texts ≡ Ok chip
 image_read texts chip image =
     let ready = opened_ready image.format in
     let from = opened image.format in
@@ -333,7 +333,7 @@ image_read texts chip image =
     let later : from.stage ≢ stage.Header = rw ready.0 (λ e. cc) in
     rw (image.starts)
     (header_passes image.format image.lines
-    ∙ reading_forms (flat_map block_forms image.blocks ++ End ∷ []) image.lines from image.format 2 later refl (forms_read image.format image.lines (flat_map block_forms image.blocks ++ End ∷ []) image.spelled)
+    ∙ reading_forms (flat_map line_forms_of_block image.blocks ++ End ∷ []) image.lines from image.format 2 later refl (forms_read image.format image.lines (flat_map line_forms_of_block image.blocks ++ End ∷ []) image.spelled)
     ∙ blocks_read image.blocks from 2 (inl ready.0) ready.1 image.each once
     ∙ ap (λ c. Ok (chip_with_blocks c image.blocks)) ready.2
     ∙ ap (λ c. Ok c) (sym image.describes))

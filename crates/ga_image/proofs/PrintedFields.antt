@@ -7,17 +7,17 @@ use Rattle.std.proofs.lemmas.Bool.Decides.{nat_tests}
 use Rattle.std.proofs.lemmas.Bool.{ne_eqb, false≢true}
 use Rattle.std.proofs.lemmas.List.{length-take-le, map-append, append-nil, take_all, take_more}
 use Rattle.std.proofs.lemmas.List.Concat.{flat_map-append}
-use Rattle.ga_stacks.specs.Ring.{fresh_word}
+use Rattle.ga_stacks.specs.Ring.{initial_stack_word}
 use Rattle.ga_ports.specs.declared.side.Side.TheVariants.{Right, Down, Left, Up}
 use Rattle.ga_node.specs.declared.wait.Wait.TheVariants.{Nothing, Fetch, Read, Write}
 use Rattle.ga_node.specs.declared.wait.Wait.{Wait as NodeWait}
 use Rattle.ga_node.specs.State.{wait_code, IsWaitCode, wait_of_code}
-use Rattle.ga_node.specs.Record.{NodeRecord, fresh_record}
+use Rattle.ga_node.specs.Record.{NodeRecord, record_at_load_defaults}
 use Rattle.ga_image.specs.declared.field.Field.{Field}
 use Rattle.ga_image.specs.declared.field.Field.TheVariants.{A, B, P, I, Io, Carry, Slot, Wait, Stop, Data, Return, Ram, Rom}
-use Rattle.ga_image.specs.Fields.{field_writes, field_number}
-use Rattle.ga_image.specs.Grammar.{field_line_writes, IsFieldLine}
-use Rattle.ga_image.specs.Printing.{AreEighteenBitWords, line_unless_default, row_of_words, memory_lines, register_lines, state_lines, changed_lines_from_fresh, IsSoundRecord, HasWaitSides, AreStackOrMemoryWords}
+use Rattle.ga_image.specs.Fields.{fields_with_words, field_number}
+use Rattle.ga_image.specs.Grammar.{field_line_writes, IsFieldLineInRange}
+use Rattle.ga_image.specs.Printing.{AreEighteenBitWords, line_unless_default, row_of_words, memory_lines, register_lines, stack_and_run_state_lines, changed_lines_since_load, IsRecordInRange, HasWaitSides, AreStackOrMemoryWords}
 use Rattle.ga_image.proofs.Pieces.{IsLine}
 use Rattle.ga_image.proofs.Spelled.{AreSix}
 use Rattle.std.proofs.Math.Seq.{take-add}
@@ -50,7 +50,7 @@ each_none Q = record { all = tt }
 
 -- a line that can be printed and read
 abbrev pub IsGood : Field × List ℕ → Type 0
-IsGood line = IsLine line.0 line.1 × IsFieldLine line
+IsGood line = IsLine line.0 line.1 × IsFieldLineInRange line
 
 -- one word that is not the one at load
 pub other_word : (at_load word : ℕ) → list_all (λ w. w == at_load) (word ∷ []) ≡ false → word ≢ at_load
@@ -127,7 +127,7 @@ rows_each Q field memory holds =
     (each_append Q (at 48 (omega arith))
     (each_append Q (at 56 (omega arith)) (each_none Q))))))))
 
-registers_good : (fresh node : NodeRecord) → IsSoundRecord node → Each IsGood (register_lines fresh node)
+registers_good : (fresh node : NodeRecord) → IsRecordInRange node → Each IsGood (register_lines fresh node)
 registers_good fresh node is =
     each_append IsGood (each_unless IsGood fresh.a A (node.a ∷ []) (λ _. let h = is.registers.a in ((refl, (omega arith, tt)), (tt, (omega arith, tt)))))
     (each_append IsGood (each_unless IsGood fresh.b B (node.b ∷ []) (λ _. let h = is.registers.b in ((refl, (omega arith, tt)), (tt, (omega arith, tt)))))
@@ -135,20 +135,20 @@ registers_good fresh node is =
     (each_append IsGood (each_unless IsGood fresh.i I (node.i ∷ []) (λ _. let h = is.registers.i in ((refl, (omega arith, tt)), (tt, (omega arith, tt)))))
     (each_unless IsGood fresh.io Io (node.io ∷ []) (λ _. let h = is.registers.io in ((refl, (omega arith, tt)), (tt, (omega arith, tt))))))))
 
-state_good : (p : ℕ) (node : NodeRecord) → IsSoundRecord node → Each IsGood (state_lines (fresh_record p) node)
+state_good : (p : ℕ) (node : NodeRecord) → IsRecordInRange node → Each IsGood (stack_and_run_state_lines (record_at_load_defaults p) node)
 state_good p node is =
     each_append IsGood (each_unless IsGood 0 Carry (from_bool node.carry ∷ []) (λ _. ((from_bool node.carry, refl, carry_fits node.carry), (tt, (carry_fits node.carry, tt)))))
     (each_append IsGood (each_unless IsGood 4 Slot (node.slot ∷ []) (λ _. ((node.slot, refl, is.state.slot), (tt, (is.state.slot, tt)))))
-    (each_append IsGood (each_unless IsGood fresh_word (Data 0) node.d (λ _. let size = is.state.d.1 in (((refl, is.state.d.1), small_six node.d is.state.d.0), (omega arith, small_greatest node.d is.state.d.0))))
-    (each_append IsGood (each_unless IsGood fresh_word (Return 0) node.r (λ _. let size = is.state.r.1 in (((refl, is.state.r.1), small_six node.r is.state.r.0), (omega arith, small_greatest node.r is.state.r.0))))
+    (each_append IsGood (each_unless IsGood initial_stack_word (Data 0) node.d (λ _. let size = is.state.d.1 in (((refl, is.state.d.1), small_six node.d is.state.d.0), (omega arith, small_greatest node.d is.state.d.0))))
+    (each_append IsGood (each_unless IsGood initial_stack_word (Return 0) node.r (λ _. let size = is.state.r.1 in (((refl, is.state.r.1), small_six node.r is.state.r.0), (omega arith, small_greatest node.r is.state.r.0))))
     (each_append IsGood (each_unless IsGood 0 Wait (wait_code node.wait ∷ []) (λ some. ((wait_code node.wait, refl, (wait_fits node.wait is.state.wait, other_word 0 (wait_code node.wait) some)), (tt, (wait_most node.wait is.state.wait, tt)))))
     (each_unless IsGood 0 Stop (node.stop ∷ []) (λ some. let other = other_word 0 node.stop some in let h = is.state.stop in ((node.stop, refl, (omega arith, is.state.stop)), (tt, (is.state.stop, tt)))))))))
 
 -- each line of a node can be printed and read
-pub lines_good : (p : ℕ) (node : NodeRecord) → IsSoundRecord node → AllByRecursion IsGood (changed_lines_from_fresh (fresh_record p) node)
+pub lines_good : (p : ℕ) (node : NodeRecord) → IsRecordInRange node → AllByRecursion IsGood (changed_lines_since_load (record_at_load_defaults p) node)
 lines_good p node is =
     let good =
-    each_append IsGood (registers_good (fresh_record p) node is)
+    each_append IsGood (registers_good (record_at_load_defaults p) node is)
     (each_append IsGood (state_good p node is)
     (each_append IsGood (rows_each IsGood Ram node.ram (λ cell low. ram_good node.ram cell is.ram.0 is.ram.1 low))
     (rows_each IsGood Rom node.rom (λ cell low. rom_good node.rom cell is.rom.0 is.rom.1 low)))) in
@@ -186,7 +186,7 @@ abbrev pub numbers_in : List (Field × List ℕ) → List ℕ
 numbers_in lines = map (λ w. field_number w.0) (field_line_writes lines)
 
 numbers_append : (xs ys : List (Field × List ℕ)) → numbers_in (xs ++ ys) ≡ numbers_in xs ++ numbers_in ys
-numbers_append xs ys = ap (map (λ w. field_number w.0)) (flat_map-append (λ line. field_writes line.0 line.1) xs ys) ∙ map-append (λ w. field_number w.0) (field_line_writes xs) (field_line_writes ys)
+numbers_append xs ys = ap (map (λ w. field_number w.0)) (flat_map-append (λ line. fields_with_words line.0 line.1) xs ys) ∙ map-append (λ w. field_number w.0) (field_line_writes xs) (field_line_writes ys)
 
 -- lines whose numbers climb
 record DoClimb (low : ℕ) (lines : List (Field × List ℕ)) (high : ℕ) : Type 0 where
@@ -202,13 +202,13 @@ climbs_lower low lower (n ∷ ns) high less climbs = (let h = climbs.0 in omega 
 
 -- the numbers of one line
 abbrev numbers_from : Field → List ℕ → List ℕ
-numbers_from field words = map (λ w. field_number w.0) (field_writes field words)
+numbers_from field words = map (λ w. field_number w.0) (fields_with_words field words)
 
 unless_climbs : (low at_load : ℕ) (field : Field) (words : List ℕ) (high : ℕ) → low ≤ high → Climbs low (numbers_from field words) high → DoClimb low (line_unless_default at_load field words) high
 unless_climbs low at_load field words high less climbs = record { climb = either (list_all (λ word. word == at_load) words) } where
   either : (b : Bool) → Climbs low (numbers_in (cond b [] ((field, words) ∷ []))) high
   either true = less
-  either false = subst (λ (ws : List (Field × ℕ)). Climbs low (map (λ w. field_number w.0) ws) high) (sym (append-nil (field_writes field words))) climbs
+  either false = subst (λ (ws : List (Field × ℕ)). Climbs low (map (λ w. field_number w.0) ws) high) (sym (append-nil (fields_with_words field words))) climbs
 
 rank_data : (k : ℕ) → k < 10 → rank (9 + k) ≡ 7 + k
 rank_data k small = grind (arith, nat_tests)
@@ -272,24 +272,24 @@ registers_climb fresh node =
     (lines_climb (unless_climbs 3 fresh.i I (node.i ∷ []) 4 (omega arith) (omega arith, omega arith))
     (unless_climbs 4 fresh.io Io (node.io ∷ []) 5 (omega arith) (omega arith, omega arith)))))
 
-state_climbs : (p : ℕ) (node : NodeRecord) → IsSoundRecord node → DoClimb 5 (state_lines (fresh_record p) node) 28
+state_climbs : (p : ℕ) (node : NodeRecord) → IsRecordInRange node → DoClimb 5 (stack_and_run_state_lines (record_at_load_defaults p) node) 28
 state_climbs p node is =
     lines_climb (unless_climbs 5 0 Carry (from_bool node.carry ∷ []) 6 (omega arith) (omega arith, omega arith))
     (lines_climb (unless_climbs 6 4 Slot (node.slot ∷ []) 7 (omega arith) (omega arith, omega arith))
-    (lines_climb (unless_climbs 7 fresh_word (Data 0) node.d 17 (omega arith) (data_climbs 0 node.d (let size = is.state.d.1 in omega arith)))
-    (lines_climb (unless_climbs 17 fresh_word (Return 0) node.r 26 (omega arith) (return_climbs 0 node.r (let size = is.state.r.1 in omega arith)))
+    (lines_climb (unless_climbs 7 initial_stack_word (Data 0) node.d 17 (omega arith) (data_climbs 0 node.d (let size = is.state.d.1 in omega arith)))
+    (lines_climb (unless_climbs 17 initial_stack_word (Return 0) node.r 26 (omega arith) (return_climbs 0 node.r (let size = is.state.r.1 in omega arith)))
     (lines_climb (unless_climbs 26 0 Wait (wait_code node.wait ∷ []) 27 (omega arith) (omega arith, omega arith))
     (unless_climbs 27 0 Stop (node.stop ∷ []) 28 (omega arith) (omega arith, omega arith))))))
 
 -- no field of a node is given twice
-pub lines_apart : (p : ℕ) (node : NodeRecord) → IsSoundRecord node → IsDistinct nat_eq (numbers_in (changed_lines_from_fresh (fresh_record p) node))
+pub lines_apart : (p : ℕ) (node : NodeRecord) → IsRecordInRange node → IsDistinct nat_eq (numbers_in (changed_lines_since_load (record_at_load_defaults p) node))
 lines_apart p node is =
-    let climbing : DoClimb 0 (changed_lines_from_fresh (fresh_record p) node) 156 =
-    lines_climb (registers_climb (fresh_record p) node)
+    let climbing : DoClimb 0 (changed_lines_since_load (record_at_load_defaults p) node) 156 =
+    lines_climb (registers_climb (record_at_load_defaults p) node)
     (lines_climb (state_climbs p node is)
     (lines_climb (rows_climb 28 Ram node.ram (λ cell low. ram_climbs cell (row_of_words node.ram cell) (cell + 8) (let size = row_size node.ram cell is.ram.1 low in omega arith)))
     (rows_climb 92 Rom node.rom (λ cell low. rom_climbs cell (row_of_words node.rom cell) (cell + 8) (let size = row_size node.rom cell is.rom.1 low in omega arith))))) in
-    climbs_apart 0 (numbers_in (changed_lines_from_fresh (fresh_record p) node)) 156 climbing.climb
+    climbs_apart 0 (numbers_in (changed_lines_since_load (record_at_load_defaults p) node)) 156 climbing.climb
 
 -- ---- whatever is printed is sound
 

@@ -2,9 +2,9 @@
 use Rattle.std.specs.Prelude.{◌==◌, nat_eq, nat_le, nat_lt, codes, ◌-◌}
 use Rattle.std.proofs.lemmas.Bool.{eqb-true}
 use Rattle.std.proofs.Common.{◌≡◌, ℕ, zero, suc, ◌+◌, ◌*◌, ◌/◌, ◌%◌, ◌<◌, ◌≤◌, inl, inr, true, false, List, [], ◌∷◌, Option, Some, None, refl, ◌∙◌, ap, arith, ◌^◌, Bool, cond, ◌&&◌, ◌++◌, length, take, drop, sym, subst, append_assoc}
-use Rattle.ga_ports.specs.Address.{side_value, parse_side_set, is_single_side}
+use Rattle.ga_ports.specs.Address.{side_letter_value, parse_side_set, is_single_side_set}
 use Rattle.ga_ports.specs.Steps.{◌>>=◌}
-use Rattle.ga_image.specs.Spelling.{side_letter_or_hyphen, side_set_text, LineForm, Node, Words, End, wait_text, field_name, field_numbers_text, field_code_text, HasWordCount, IsTextOfWords, IsFieldCode, IsTextOfCode, IsTextOfField, IsTextOfForm, line_form, spaced_words, within_row_size, words_in_row, word_form, cells_form, stack_form, digit_form, side_set_wait_form, side_write_wait_form, wait_form, node_form, stack_memory_or_node_form, state_form, begins_with_text}
+use Rattle.ga_image.specs.Spelling.{side_letter_or_hyphen, side_set_text, LineForm, Node, Words, End, wait_text, field_name, field_numbers_text, field_code_text, HasFieldWordCount, IsFieldWordsText, IsFieldCodeNumber, IsFieldCodeText, IsTextOfField, IsLineFormText, line_form, parse_spaced_words, words_within_row_size, parse_row_words, word_line_form, cells_line_form, stack_line_form, digit_line_form, side_set_wait_form, side_write_wait_form, node_wait_line_form, node_line_form, stack_memory_or_node_form, state_line_form, begins_with_text}
 use Rattle.ga_text.proofs.Numbers.{chosen, word_spelled, word_read, cell_spelled, node_spelled, between}
 use Rattle.std.specs.List.{AllByRecursion}
 use Rattle.std.specs.Char.{to_ascii_lowercase}
@@ -13,15 +13,15 @@ use Rattle.std.specs.Cmp.Lexicographic.{pointwise}
 use Rattle.std.proofs.lemmas.Bool.Decides.{nat_tests}
 use Rattle.std.proofs.lemmas.List.{take-append-drop}
 use Rattle.std.proofs.lemmas.Slice.Eq.{bytes_eq-Decides}
-use Rattle.ga_word.specs.Word.{hex6_of, hex6_value}
+use Rattle.ga_word.specs.Word.{hex_digits_of_word, six_hex_digits_value}
 use Rattle.ga_image.specs.declared.field.Field.{Field}
 use Rattle.ga_image.specs.declared.field.Field.TheVariants.{A, B, P, I, Io, Carry, Slot, Wait, Stop, Data, Return, Ram, Rom}
 use Rattle.ga_node.specs.State.{IsWaitCode}
-use Rattle.ga_grid.specs.Grid.{parse_node_name}
-use Rattle.ga_text.specs.Digits.{hex_byte_value, hex2_of, words_text}
+use Rattle.ga_grid.specs.Grid.{parse_decimal_name}
+use Rattle.ga_text.specs.Digits.{hex_byte_value, two_hex_digits_text, spaced_words_text}
 
 -- a side that is read is in the set, or isn't
-side_spelled : (name value c v : ℕ) → side_value name value c ≡ Some v → (bit : ℕ) × (bit ≤ 1) × (v ≡ value * bit) × (c ≡ side_letter_or_hyphen name bit)
+side_spelled : (name value c v : ℕ) → side_letter_value name value c ≡ Some v → (bit : ℕ) × (bit ≤ 1) × (v ≡ value * bit) × (c ≡ side_letter_or_hyphen name bit)
 side_spelled name value c v e =
     elim (chosen (c == name) value v _ e) [
       | inl named ↦ let is : c ≡ name = eqb-true c name named.0 in let same = named.1 in (1, omega arith, omega arith, is)
@@ -31,22 +31,22 @@ side_spelled name value c v e =
       ]
     ]
 
-right_read : (bit : ℕ) → bit ≤ 1 → side_value 114 8 (side_letter_or_hyphen 114 bit) ≡ Some (8 * bit)
+right_read : (bit : ℕ) → bit ≤ 1 → side_letter_value 114 8 (side_letter_or_hyphen 114 bit) ≡ Some (8 * bit)
 right_read zero small = refl
 right_read (suc zero) small = refl
 right_read (suc (suc bit)) small = absurd (omega arith)
 
-down_read : (bit : ℕ) → bit ≤ 1 → side_value 100 4 (side_letter_or_hyphen 100 bit) ≡ Some (4 * bit)
+down_read : (bit : ℕ) → bit ≤ 1 → side_letter_value 100 4 (side_letter_or_hyphen 100 bit) ≡ Some (4 * bit)
 down_read zero small = refl
 down_read (suc zero) small = refl
 down_read (suc (suc bit)) small = absurd (omega arith)
 
-left_read : (bit : ℕ) → bit ≤ 1 → side_value 108 2 (side_letter_or_hyphen 108 bit) ≡ Some (2 * bit)
+left_read : (bit : ℕ) → bit ≤ 1 → side_letter_value 108 2 (side_letter_or_hyphen 108 bit) ≡ Some (2 * bit)
 left_read zero small = refl
 left_read (suc zero) small = refl
 left_read (suc (suc bit)) small = absurd (omega arith)
 
-up_read : (bit : ℕ) → bit ≤ 1 → side_value 117 1 (side_letter_or_hyphen 117 bit) ≡ Some (1 * bit)
+up_read : (bit : ℕ) → bit ≤ 1 → side_letter_value 117 1 (side_letter_or_hyphen 117 bit) ≡ Some (1 * bit)
 up_read zero small = refl
 up_read (suc zero) small = refl
 up_read (suc (suc bit)) small = absurd (omega arith)
@@ -70,7 +70,7 @@ set_spelled (x ∷ []) n is = cc
 set_spelled (x ∷ y ∷ []) n is = cc
 set_spelled (x ∷ y ∷ z ∷ []) n is = cc
 set_spelled (x ∷ y ∷ z ∷ w ∷ []) n is =
-    let (a, b, c, d, xa, yb, zc, wd, whole) = quad_stepped (side_value 114 8 x) (side_value 100 4 y) (side_value 108 2 z) (side_value 117 1 w) n is in
+    let (a, b, c, d, xa, yb, zc, wd, whole) = quad_stepped (side_letter_value 114 8 x) (side_letter_value 100 4 y) (side_letter_value 108 2 z) (side_letter_value 117 1 w) n is in
     let (r, r_small, a_is, x_is) = side_spelled 114 8 x a xa in
     let (t, t_small, b_is, y_is) = side_spelled 100 4 y b yb in
     let (l, l_small, c_is, z_is) = side_spelled 108 2 z c zc in
@@ -111,10 +111,10 @@ through_word true None found ws e = cc
 through_word true (Some w) None ws e = cc
 through_word true (Some w) (Some vs) ws e = let same : ws ≡ w ∷ vs = cc in (w, vs, refl, refl, same)
 
-spelled_on : (a b c d f g h : ℕ) (text : List ℕ) (w : ℕ) (vs ws : List ℕ) → a ≡ 32 → ws ≡ w ∷ vs → w < 2 ^ 24 → str_to_ascii_lowercase (b ∷ c ∷ d ∷ f ∷ g ∷ h ∷ []) ≡ hex6_of w
-    → AreSix vs → str_to_ascii_lowercase text ≡ words_text vs → AreSix ws × (str_to_ascii_lowercase (a ∷ b ∷ c ∷ d ∷ f ∷ g ∷ h ∷ text) ≡ words_text ws)
+spelled_on : (a b c d f g h : ℕ) (text : List ℕ) (w : ℕ) (vs ws : List ℕ) → a ≡ 32 → ws ≡ w ∷ vs → w < 2 ^ 24 → str_to_ascii_lowercase (b ∷ c ∷ d ∷ f ∷ g ∷ h ∷ []) ≡ hex_digits_of_word w
+    → AreSix vs → str_to_ascii_lowercase text ≡ spaced_words_text vs → AreSix ws × (str_to_ascii_lowercase (a ∷ b ∷ c ∷ d ∷ f ∷ g ∷ h ∷ text) ≡ spaced_words_text ws)
 spelled_on a b c d f g h text w vs ws space both small digits others more =
-    rw (both, space) ((small, others), ap (λ zs. 32 ∷ (zs ++ str_to_ascii_lowercase text)) digits ∙ ap (λ zs. 32 ∷ (hex6_of w ++ zs)) more)
+    rw (both, space) ((small, others), ap (λ zs. 32 ∷ (zs ++ str_to_ascii_lowercase text)) digits ∙ ap (λ zs. 32 ∷ (hex_digits_of_word w ++ zs)) more)
 
 apart : (a b c d e f g a' b' c' d' e' f' g' : ℕ) (xs ys : List ℕ) → (a ∷ b ∷ c ∷ d ∷ e ∷ f ∷ g ∷ xs) ≡ (a' ∷ b' ∷ c' ∷ d' ∷ e' ∷ f' ∷ g' ∷ ys)
     → (a ≡ a') × ((b ∷ c ∷ d ∷ e ∷ f ∷ g ∷ []) ≡ (b' ∷ c' ∷ d' ∷ e' ∷ f' ∷ g' ∷ [])) × (xs ≡ ys)
@@ -133,8 +133,8 @@ both_true true y e = (refl, e)
 both_true false y e = cc
 
 -- a text that parses as words is their text
-words_spelled : (text ws : List ℕ) → spaced_words text ≡ Some ws → AreSix ws × (str_to_ascii_lowercase text ≡ words_text ws)
-unfolding spaced_words
+words_spelled : (text ws : List ℕ) → parse_spaced_words text ≡ Some ws → AreSix ws × (str_to_ascii_lowercase text ≡ spaced_words_text ws)
+unfolding parse_spaced_words
 words_spelled [] ws e = let none : ws ≡ [] = cc in rw none (tt, refl)
 words_spelled (a ∷ []) ws e = cc
 words_spelled (a ∷ b ∷ []) ws e = cc
@@ -144,7 +144,7 @@ words_spelled (a ∷ b ∷ c ∷ d ∷ f ∷ []) ws e = cc
 words_spelled (a ∷ b ∷ c ∷ d ∷ f ∷ g ∷ []) ws e = cc
 words_spelled (a ∷ b ∷ c ∷ d ∷ f ∷ g ∷ h ∷ text) ws e =
     let space : a ≡ 32 = eqb-true a 32 (guard_true (a == 32) _ ws e) in
-    let (w, vs, word, rest, both) = through_word (a == 32) (hex6_value (b ∷ c ∷ d ∷ f ∷ g ∷ h ∷ [])) (spaced_words text) ws e in
+    let (w, vs, word, rest, both) = through_word (a == 32) (six_hex_digits_value (b ∷ c ∷ d ∷ f ∷ g ∷ h ∷ [])) (parse_spaced_words text) ws e in
     let (small, digits) = word_spelled b c d f g h w word in
     let (others, more) = words_spelled text vs rest in
     spelled_on a b c d f g h text w vs ws space both small digits others more
@@ -152,8 +152,8 @@ words_spelled (a ∷ b ∷ c ∷ d ∷ f ∷ g ∷ h ∷ text) ws e =
 pub lower_space : (c : ℕ) → to_ascii_lowercase c ≡ 32 → c ≡ 32
 lower_space c e = grind (arith, nat_tests)
 
-words_read : (text ws : List ℕ) → AreSix ws → str_to_ascii_lowercase text ≡ words_text ws → spaced_words text ≡ Some ws
-unfolding spaced_words
+words_read : (text ws : List ℕ) → AreSix ws → str_to_ascii_lowercase text ≡ spaced_words_text ws → parse_spaced_words text ≡ Some ws
+unfolding parse_spaced_words
 words_read [] [] six e = refl
 words_read (a ∷ text) [] six e = cc
 words_read [] (w ∷ ws) six e = cc
@@ -170,26 +170,26 @@ words_read (a ∷ b ∷ c ∷ d ∷ f ∷ g ∷ h ∷ text) (w ∷ ws) six e =
     let more = words_read text ws six.1 parts.2 in
     rw (space, word, more) refl
 
-few_is : (found ws : List ℕ) → within_row_size found ≡ Some ws → (found ≡ ws) × (1 ≤ length ws) × (length ws ≤ 16)
+few_is : (found ws : List ℕ) → words_within_row_size found ≡ Some ws → (found ≡ ws) × (1 ≤ length ws) × (length ws ≤ 16)
 few_is found ws e =
     let (test, same) = guarded (nat_le 1 (length found) && nat_le (length found) 16) found ws e in
-    let (some, within_row_size) = both_true (nat_le 1 (length found)) (nat_le (length found) 16) test in
+    let (some, words_within_row_size) = both_true (nat_le 1 (length found)) (nat_le (length found) 16) test in
     rw (← same) (refl, grind (arith, nat_tests), grind (arith, nat_tests))
 
 -- a text that parses as 1 to 16 words is their text
-row_spelled : (text ws : List ℕ) → words_in_row text ≡ Some ws → AreSix ws × (str_to_ascii_lowercase text ≡ words_text ws) × (1 ≤ length ws) × (length ws ≤ 16)
-unfolding words_in_row
+row_spelled : (text ws : List ℕ) → parse_row_words text ≡ Some ws → AreSix ws × (str_to_ascii_lowercase text ≡ spaced_words_text ws) × (1 ≤ length ws) × (length ws ≤ 16)
+unfolding parse_row_words
 row_spelled text ws e =
-    let (found, spaced, within_row_size) = first_step (spaced_words text) within_row_size ws e in
-    let (same, some, most) = few_is found ws within_row_size in
+    let (found, spaced, words_within_row_size) = first_step (parse_spaced_words text) words_within_row_size ws e in
+    let (same, some, most) = few_is found ws words_within_row_size in
     let (six, digits) = words_spelled text ws (spaced ∙ ap (λ (xs : List ℕ). Some xs) same) in
     (six, digits, some, most)
 
-pub row_read : (text ws : List ℕ) → AreSix ws → str_to_ascii_lowercase text ≡ words_text ws → 1 ≤ length ws → length ws ≤ 16 → words_in_row text ≡ Some ws
-unfolding words_in_row
+pub row_read : (text ws : List ℕ) → AreSix ws → str_to_ascii_lowercase text ≡ spaced_words_text ws → 1 ≤ length ws → length ws ≤ 16 → parse_row_words text ≡ Some ws
+unfolding parse_row_words
 row_read text ws six digits some most = rw (words_read text ws six digits) (grind (arith, nat_tests))
 
-six_spelled : (text : List ℕ) (n : ℕ) → hex6_value text ≡ Some n → (n < 2 ^ 24) × (str_to_ascii_lowercase text ≡ hex6_of n)
+six_spelled : (text : List ℕ) (n : ℕ) → six_hex_digits_value text ≡ Some n → (n < 2 ^ 24) × (str_to_ascii_lowercase text ≡ hex_digits_of_word n)
 six_spelled [] n e = cc
 six_spelled (a ∷ []) n e = cc
 six_spelled (a ∷ b ∷ []) n e = cc
@@ -208,14 +208,14 @@ branch true x y z p q e = p refl e
 branch false x y z p q e = q e
 
 -- a register's line
-register_spelled : (text : List ℕ) (field : Field) (f : LineForm) → ((words : List ℕ) → field_numbers_text field words ≡ words_text words) → ((count : ℕ) → count ≡ 1 → HasWordCount field count)
-    → (digits : List ℕ) → text ≡ (field_name field ++ 32 ∷ []) ++ digits → word_form field digits ≡ Some f → ((words : List ℕ) → IsTextOfWords text field words → IsTextOfField text field words) → IsTextOfForm text f
-unfolding word_form
+register_spelled : (text : List ℕ) (field : Field) (f : LineForm) → ((words : List ℕ) → field_numbers_text field words ≡ spaced_words_text words) → ((count : ℕ) → count ≡ 1 → HasFieldWordCount field count)
+    → (digits : List ℕ) → text ≡ (field_name field ++ 32 ∷ []) ++ digits → word_line_form field digits ≡ Some f → ((words : List ℕ) → IsFieldWordsText text field words → IsTextOfField text field words) → IsLineFormText text f
+unfolding word_line_form
 register_spelled text field f plain counted tail is e wide =
-    let (word, digits, made) = first_step (hex6_value tail) _ f e in
+    let (word, digits, made) = first_step (six_hex_digits_value tail) _ f e in
     let same : Words field (word ∷ []) ≡ f = cc in
     let (small, lower) = six_spelled tail word digits in
-    subst (IsTextOfForm text) same (wide (word ∷ []) (record {
+    subst (IsLineFormText text) same (wide (word ∷ []) (record {
       count = counted 1 refl;
       six_digits = (small, tt);
       numbers = 32 ∷ tail;
@@ -223,26 +223,26 @@ register_spelled text field f plain counted tail is e wide =
       digits = ap (λ xs. 32 ∷ xs) lower ∙ sym (plain (word ∷ []));
     }))
 
-cells_parts : (text : List ℕ) (field : ℕ → Field) (f : LineForm) → cells_form field text ≡ Some f
-    → (cell : ℕ) × (ws : List ℕ) × (Words (field cell) ws ≡ f) × (cell < 256) × AreSix ws × (str_to_ascii_lowercase text ≡ hex2_of cell ++ words_text ws) × (1 ≤ length ws) × (length ws ≤ 16)
-unfolding cells_form
+cells_parts : (text : List ℕ) (field : ℕ → Field) (f : LineForm) → cells_line_form field text ≡ Some f
+    → (cell : ℕ) × (ws : List ℕ) × (Words (field cell) ws ≡ f) × (cell < 256) × AreSix ws × (str_to_ascii_lowercase text ≡ two_hex_digits_text cell ++ spaced_words_text ws) × (1 ≤ length ws) × (length ws ≤ 16)
+unfolding cells_line_form
 cells_parts [] field f e = cc
 cells_parts (x ∷ []) field f e = cc
 cells_parts (x ∷ y ∷ text) field f e =
     let (cell, digits, more) = first_step (hex_byte_value (x ∷ y ∷ [])) _ f e in
-    let (ws, row, made) = first_step (words_in_row text) _ f more in
+    let (ws, row, made) = first_step (parse_row_words text) _ f more in
     let same : Words (field cell) ws ≡ f = cc in
     let (small, front) = cell_spelled x y cell digits in
     let (six, back, some, most) = row_spelled text ws row in
-    (cell, ws, same, small, six, ap (λ xs. xs ++ str_to_ascii_lowercase text) front ∙ ap (λ xs. hex2_of cell ++ xs) back, some, most)
+    (cell, ws, same, small, six, ap (λ xs. xs ++ str_to_ascii_lowercase text) front ∙ ap (λ xs. two_hex_digits_text cell ++ xs) back, some, most)
 
 -- a line of cells
-cells_spelled : (text : List ℕ) (field : ℕ → Field) (f : LineForm) → ((cell : ℕ) (words : List ℕ) → field_numbers_text (field cell) words ≡ hex2_of cell ++ words_text words)
-    → ((cell count : ℕ) → cell < 256 → 1 ≤ count → count ≤ 16 → HasWordCount (field cell) count) → ((cell : ℕ) → text ≡ field_name (field cell) ++ drop 4 text) → cells_form field (drop 4 text) ≡ Some f
-    → ((cell : ℕ) (words : List ℕ) → IsTextOfWords text (field cell) words → IsTextOfField text (field cell) words) → IsTextOfForm text f
+cells_spelled : (text : List ℕ) (field : ℕ → Field) (f : LineForm) → ((cell : ℕ) (words : List ℕ) → field_numbers_text (field cell) words ≡ two_hex_digits_text cell ++ spaced_words_text words)
+    → ((cell count : ℕ) → cell < 256 → 1 ≤ count → count ≤ 16 → HasFieldWordCount (field cell) count) → ((cell : ℕ) → text ≡ field_name (field cell) ++ drop 4 text) → cells_line_form field (drop 4 text) ≡ Some f
+    → ((cell : ℕ) (words : List ℕ) → IsFieldWordsText text (field cell) words → IsTextOfField text (field cell) words) → IsLineFormText text f
 cells_spelled text field f plain counted is e wide =
     let (cell, ws, same, small, six, lower, some, most) = cells_parts (drop 4 text) field f e in
-    subst (IsTextOfForm text) same (wide cell ws (record {
+    subst (IsLineFormText text) same (wide cell ws (record {
       count = counted cell (length ws) small some most;
       six_digits = six;
       numbers = drop 4 text;
@@ -251,15 +251,15 @@ cells_spelled text field f plain counted is e wide =
     }))
 
 -- a line of a stack
-stack_spelled : (text : List ℕ) (field : Field) (count : ℕ) (f : LineForm) → ((words : List ℕ) → field_numbers_text field words ≡ words_text words) → HasWordCount field count → text ≡ field_name field ++ drop 1 text
-    → stack_form field count (drop 1 text) ≡ Some f → ((words : List ℕ) → IsTextOfWords text field words → IsTextOfField text field words) → IsTextOfForm text f
-unfolding stack_form
+stack_spelled : (text : List ℕ) (field : Field) (count : ℕ) (f : LineForm) → ((words : List ℕ) → field_numbers_text field words ≡ spaced_words_text words) → HasFieldWordCount field count → text ≡ field_name field ++ drop 1 text
+    → stack_line_form field count (drop 1 text) ≡ Some f → ((words : List ℕ) → IsFieldWordsText text field words → IsTextOfField text field words) → IsLineFormText text f
+unfolding stack_line_form
 stack_spelled text field count f plain counted is e wide =
-    let (ws, row, made) = first_step (words_in_row (drop 1 text)) _ f e in
+    let (ws, row, made) = first_step (parse_row_words (drop 1 text)) _ f e in
     let (test, same) = guarded (length ws == count) (Words field ws) f made in
     let (six, lower, some, most) = row_spelled (drop 1 text) ws row in
-    subst (IsTextOfForm text) same (wide ws (record {
-      count = subst (HasWordCount field) (sym (eqb-true (length ws) count test)) counted;
+    subst (IsLineFormText text) same (wide ws (record {
+      count = subst (HasFieldWordCount field) (sym (eqb-true (length ws) count test)) counted;
       six_digits = six;
       numbers = drop 1 text;
       parts = is;
@@ -267,9 +267,9 @@ stack_spelled text field count f plain counted is e wide =
     }))
 
 -- a line of one digit
-digit_spelled : (field : Field) (least most : ℕ) (text : List ℕ) (f : LineForm) → digit_form field least most text ≡ Some f
+digit_spelled : (field : Field) (least most : ℕ) (text : List ℕ) (f : LineForm) → digit_line_form field least most text ≡ Some f
     → (code : ℕ) × (Words field (code ∷ []) ≡ f) × (least ≤ code) × (code ≤ most) × (text ≡ (48 + code) ∷ [])
-unfolding digit_form
+unfolding digit_line_form
 digit_spelled field least most [] f e = cc
 digit_spelled field least most (c ∷ []) f e =
     let (test, same) = guarded (nat_le (48 + least) c && nat_le c (48 + most)) (Words field ((c - 48) ∷ [])) f e in
@@ -279,9 +279,9 @@ digit_spelled field least most (c ∷ []) f e =
 digit_spelled field least most (c ∷ d ∷ text) f e = cc
 
 -- a line of a code
-code_spelled : (text : List ℕ) (field : Field) (code : ℕ) (f : LineForm) → Words field (code ∷ []) ≡ f → IsFieldCode field code → text ≡ field_name field ++ field_code_text field code
-    → ((words : List ℕ) → IsTextOfCode text field words → IsTextOfField text field words) → IsTextOfForm text f
-code_spelled text field code f same valid is wide = subst (IsTextOfForm text) same (wide (code ∷ []) (record { code = code; one = refl; valid = valid; parts = is }))
+code_spelled : (text : List ℕ) (field : Field) (code : ℕ) (f : LineForm) → Words field (code ∷ []) ≡ f → IsFieldCodeNumber field code → text ≡ field_name field ++ field_code_text field code
+    → ((words : List ℕ) → IsFieldCodeText text field words → IsTextOfField text field words) → IsLineFormText text f
+code_spelled text field code f same valid is wide = subst (IsLineFormText text) same (wide (code ∷ []) (record { code = code; one = refl; valid = valid; parts = is }))
 
 set_parts : (kind : ℕ) (text : List ℕ) (f : LineForm) → side_set_wait_form kind text ≡ Some f → (sides : ℕ) × (Words Wait ((kind + sides) ∷ []) ≡ f) × (0 < sides) × (sides < 16) × (text ≡ side_set_text sides)
 unfolding side_set_wait_form
@@ -296,7 +296,7 @@ set_parts kind text f e =
       some_sides zero kind f made = cc
       some_sides (suc sides) kind f made = omega arith
 
-single_side : (sides : ℕ) → is_single_side sides ≡ true → IsWaitCode (48 + sides)
+single_side : (sides : ℕ) → is_single_side_set sides ≡ true → IsWaitCode (48 + sides)
 single_side sides e = grind (arith, nat_tests)
 
 side_parts : (text : List ℕ) (f : LineForm) → side_write_wait_form text ≡ Some f → (sides : ℕ) × (Words Wait ((48 + sides) ∷ []) ≡ f) × IsWaitCode (48 + sides) × (sides < 16) × (text ≡ side_set_text sides)
@@ -304,7 +304,7 @@ unfolding side_write_wait_form
 side_parts text f e =
     let (sides, letters, made) = first_step (parse_side_set text) _ f e in
     let (small, is) = set_spelled text sides letters in
-    let (test, same) = guarded (is_single_side sides) (Words Wait ((48 + sides) ∷ [])) f made in
+    let (test, same) = guarded (is_single_side_set sides) (Words Wait ((48 + sides) ∷ [])) f made in
     (sides, same, single_side sides test, small, is)
 
 pub fetch_text : (sides : ℕ) → sides < 16 → wait_text (16 + sides) ≡ codes "fetch " ++ side_set_text sides
@@ -326,10 +326,10 @@ write_text sides =
 
 -- a wait, and what is read of it
 abbrev WaitParts : List ℕ → LineForm → Type 0
-WaitParts text f = (code : ℕ) × (Words Wait (code ∷ []) ≡ f) × IsFieldCode Wait code × (text ≡ wait_text code)
+WaitParts text f = (code : ℕ) × (Words Wait (code ∷ []) ≡ f) × IsFieldCodeNumber Wait code × (text ≡ wait_text code)
 
-wait_parts : (text : List ℕ) (f : LineForm) → wait_form text ≡ Some f → WaitParts text f
-unfolding wait_form
+wait_parts : (text : List ℕ) (f : LineForm) → node_wait_line_form text ≡ Some f → WaitParts text f
+unfolding node_wait_line_form
 wait_parts text f =
     branch _ _ _ _ (λ b e.
     let (sides, same, some, small, is) = set_parts 16 (drop 6 text) f e in
@@ -342,20 +342,20 @@ wait_parts text f =
     (48 + sides, same, (valid, λ none. absurd (omega arith)), begun text (codes "write ") b ∙ ap (λ xs. codes "write " ++ xs) is ∙ sym (write_text sides)))
     (λ never. absurd (let clash : true ≡ false = cc in cc))))
 
-node_line_spelled : (text : List ℕ) (f : LineForm) → text ≡ codes "node " ++ drop 5 text → node_form (drop 5 text) ≡ Some f → IsTextOfForm text f
-unfolding node_form
+node_line_spelled : (text : List ℕ) (f : LineForm) → text ≡ codes "node " ++ drop 5 text → node_line_form (drop 5 text) ≡ Some f → IsLineFormText text f
+unfolding node_line_form
 node_line_spelled text f is e =
-    let (yxx, digits, made) = first_step (parse_node_name (drop 5 text)) _ f e in
-    let same : Node yxx ≡ f = cc in
-    let (small, spelled) = node_spelled (drop 5 text) yxx digits in
-    subst (IsTextOfForm text) same (small, is ∙ ap (λ xs. codes "node " ++ xs) spelled)
+    let (decimal_name, digits, made) = first_step (parse_decimal_name (drop 5 text)) _ f e in
+    let same : Node decimal_name ≡ f = cc in
+    let (small, spelled) = node_spelled (drop 5 text) decimal_name digits in
+    subst (IsLineFormText text) same (small, is ∙ ap (λ xs. codes "node " ++ xs) spelled)
 
-end_spelled : (text : List ℕ) (f : LineForm) → cond (pointwise nat_eq text (codes "end")) (Some End) None ≡ Some f → IsTextOfForm text f
+end_spelled : (text : List ℕ) (f : LineForm) → cond (pointwise nat_eq text (codes "end")) (Some End) None ≡ Some f → IsLineFormText text f
 end_spelled text f e =
     let (test, same) = guarded (pointwise nat_eq text (codes "end")) End f e in
-    subst (IsTextOfForm text) same ((bytes_eq-Decides text (codes "end")).0 test)
+    subst (IsLineFormText text) same ((bytes_eq-Decides text (codes "end")).0 test)
 
-wide_spelled : (text : List ℕ) (f : LineForm) → stack_memory_or_node_form text ≡ Some f → IsTextOfForm text f
+wide_spelled : (text : List ℕ) (f : LineForm) → stack_memory_or_node_form text ≡ Some f → IsLineFormText text f
 unfolding stack_memory_or_node_form
 wide_spelled text f =
     branch _ _ _ _ (λ b e. stack_spelled text (Data 0) 10 f (λ words. refl) (refl, refl) (begun text (codes "d") b) e (λ words is. is))
@@ -365,8 +365,8 @@ wide_spelled text f =
     (branch _ _ _ _ (λ b e. node_line_spelled text f (begun text (codes "node ") b) e)
     (end_spelled text f)))))
 
-state_spelled : (text : List ℕ) (f : LineForm) → state_form text ≡ Some f → IsTextOfForm text f
-unfolding state_form
+state_spelled : (text : List ℕ) (f : LineForm) → state_line_form text ≡ Some f → IsLineFormText text f
+unfolding state_line_form
 state_spelled text f =
     branch _ _ _ _ (λ b e. let (code, same, least, most, is) = digit_spelled Carry 0 1 (drop 6 text) f e in
     code_spelled text Carry code f same most (begun text (codes "carry ") b ∙ ap (λ xs. codes "carry " ++ xs) is) (λ words is. is))
@@ -379,7 +379,7 @@ state_spelled text f =
     (wide_spelled text f))))
 
 -- a line is a text of the form that it parses as
-pub form_spelled : (text : List ℕ) (f : LineForm) → line_form text ≡ Some f → IsTextOfForm text f
+pub form_spelled : (text : List ℕ) (f : LineForm) → line_form text ≡ Some f → IsLineFormText text f
 unfolding line_form
 form_spelled text f =
     branch _ _ _ _ (λ b e. register_spelled text A f (λ words. refl) (λ count one. one) (drop 2 text) (begun text (codes "a ") b) e (λ words is. is))

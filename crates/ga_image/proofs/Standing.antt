@@ -2,88 +2,88 @@
 use Rattle.std.specs.Bool.{Decides}
 use Rattle.std.proofs.Common.{◌≡◌, ◌≢◌, ℕ, ◌⊎◌, inl, inr, Bool, true, false, cond, List, [], ◌∷◌, get_or, Option, Some, None, refl, sym, ◌∙◌, ap, subst}
 use Rattle.std.proofs.lemmas.Bool.Decides.{not_from_Decides}
-use Rattle.ga_grid.specs.Grid.{number_of_yxx}
-use Rattle.ga_image.specs.declared.fault.ImageCause.{ImageCause}
-use Rattle.ga_image.specs.declared.fault.ImageCause.TheVariants as cause
+use Rattle.ga_grid.specs.Grid.{node_number_of_name}
+use Rattle.ga_image.specs.declared.fault.ImageFaultCause.{ImageFaultCause}
+use Rattle.ga_image.specs.declared.fault.ImageFaultCause.TheVariants as cause
 use Rattle.ga_image.specs.declared.field.Field.{Field}
 use Rattle.ga_image.specs.declared.field.Format.{Format}
 use Rattle.ga_image.specs.declared.field.Format.TheVariants.{One, Two}
-use Rattle.ga_image.specs.inner.{HasCell}
-use Rattle.ga_image.specs.Fields.{field_number, load_run_state, run_state_after, is_inconsistent_state}
-use Rattle.ga_image.specs.Spelling.{LineForm, Node, Words, End, IsTextOfForm, line_form, state_form, stack_memory_or_node_form}
-use Rattle.ga_image.specs.Grammar.{header, field_line_writes}
+use Rattle.ga_image.specs.inner.{IsFieldWithinBank}
+use Rattle.ga_image.specs.Fields.{field_number, run_state_at_load, run_state_after_words, is_inconsistent_run_state}
+use Rattle.ga_image.specs.Spelling.{LineForm, Node, Words, End, IsLineFormText, line_form, state_line_form, stack_memory_or_node_form}
+use Rattle.ga_image.specs.Grammar.{header_of_format, field_line_writes}
 use Rattle.ga_image.specs.Reading.{ImageReadProgress, ImageReadStage, is_misplaced_line, ends_inconsistent_block, form_in_format}
 use Rattle.ga_image.specs.Reading as stage
-use Rattle.ga_image.specs.FirstFault.{AreTextsOfFieldLines, HasLastFieldLines, format_of_first_line, IsInconsistentBlockEnd, HoldsForOneElement, IsEndLine, IsNodeLineOf, IsNodeLine, IsFieldGiven, HasNoLineForm, IsInvalidLine, HasRefusalCause, IsFirstRefusalCause, HasNoneOfRefusalCauses}
+use Rattle.ga_image.specs.FirstFault.{AreTextsOfFieldLines, HasLastBlockFieldLines, format_of_first_line, IsInconsistentBlockEnd, HoldsForSomeElement, IsEndLine, IsLineBeginningNode, IsNodeLine, IsFieldGiven, HasNoLineForm, IsInvalidLine, HasRefusalCause, IsFirstRefusalCause, HasNoneOfRefusalCauses}
 use Rattle.ga_image.proofs.Spellings.{form_read, kept_spelled, kept_read}
 use Rattle.ga_image.proofs.Room.{IsSized}
 
 -- ---- tests for causes
 
 -- what was found among these causes
-abbrev pub Tells : List (List ℕ) → List ℕ → List ImageCause → Option ImageCause → Type 0
+abbrev pub Tells : List (List ℕ) → List ℕ → List ImageFaultCause → Option ImageFaultCause → Type 0
 Tells before line left None = HasNoneOfRefusalCauses before line left
 Tells before line left (Some first) = IsFirstRefusalCause before line left first
 
 -- the causes after the first, after the second and so on
-abbrev pub after_word : List ImageCause
-after_word = cause.Repeated ∷ []
+abbrev pub after_word : List ImageFaultCause
+after_word = cause.RepeatedNodeOrField ∷ []
 
-abbrev pub after_place : List ImageCause
-after_place = cause.Word ∷ after_word
+abbrev pub after_place : List ImageFaultCause
+after_place = cause.WordOutOfRange ∷ after_word
 
-abbrev pub after_node : List ImageCause
+abbrev pub after_node : List ImageFaultCause
 after_node = cause.Place ∷ after_place
 
-abbrev pub after_state : List ImageCause
-after_state = cause.Node ∷ after_node
+abbrev pub after_state : List ImageFaultCause
+after_state = cause.UnknownNode ∷ after_node
 
-abbrev pub progress_after_line : List ImageCause
+abbrev pub progress_after_line : List ImageFaultCause
 progress_after_line = cause.State ∷ after_state
 
-abbrev pub after_header : List ImageCause
-after_header = cause.Line ∷ progress_after_line
+abbrev pub after_header : List ImageFaultCause
+after_header = cause.InvalidLine ∷ progress_after_line
 
-abbrev pub after_long : List ImageCause
-after_long = cause.Header ∷ after_header
+abbrev pub after_long : List ImageFaultCause
+after_long = cause.WrongHeader ∷ after_header
 
 -- a test for the first of the causes, and others for the rest
-pub tested : (before : List (List ℕ)) (line : List ℕ) (c : ImageCause) (left : List ImageCause) (b : Bool) (others : Option ImageCause)
+pub tested : (before : List (List ℕ)) (line : List ℕ) (c : ImageFaultCause) (left : List ImageFaultCause) (b : Bool) (others : Option ImageFaultCause)
     → Decides b (HasRefusalCause before line c) → (b ≡ false → Tells before line left others) → Tells before line (c ∷ left) (cond b (Some c) others)
 tested before line c left true others decides rest = inl (refl, decides.0 refl)
 tested before line c left false None decides rest = (not_from_Decides false decides refl, rest refl)
 tested before line c left false (Some d) decides rest = inr (not_from_Decides false decides refl, rest refl)
 
 -- a cause that the line doesn't have
-pub passed_over : (before : List (List ℕ)) (line : List ℕ) (c : ImageCause) (left : List ImageCause) (found : Option ImageCause)
+pub passed_over : (before : List (List ℕ)) (line : List ℕ) (c : ImageFaultCause) (left : List ImageFaultCause) (found : Option ImageFaultCause)
     → ¬ HasRefusalCause before line c → Tells before line left found → Tells before line (c ∷ left) found
 passed_over before line c left None never rest = (never, rest)
 passed_over before line c left (Some d) never rest = inr (never, rest)
 
 -- ---- a line has one form
 
-pub one_form : (line : List ℕ) (f g : LineForm) → IsTextOfForm line f → IsTextOfForm line g → f ≡ g
+pub one_form : (line : List ℕ) (f g : LineForm) → IsLineFormText line f → IsLineFormText line g → f ≡ g
 one_form line f g first second = let same : Some f ≡ Some g = sym (form_read line f first) ∙ form_read line g second in cc
 
-pub node_no_words : (line : List ℕ) (y : ℕ) (field : Field) (words : List ℕ) → IsTextOfForm line (Node y) → ¬ IsTextOfForm line (Words field words)
+pub node_no_words : (line : List ℕ) (y : ℕ) (field : Field) (words : List ℕ) → IsLineFormText line (Node y) → ¬ IsLineFormText line (Words field words)
 node_no_words line y field words node = λ is. let same : Node y ≡ Words field words = one_form line _ _ node is in let never : true ≡ false = cc in cc
 
-pub end_no_words : (line : List ℕ) (field : Field) (words : List ℕ) → IsTextOfForm line End → ¬ IsTextOfForm line (Words field words)
+pub end_no_words : (line : List ℕ) (field : Field) (words : List ℕ) → IsLineFormText line End → ¬ IsLineFormText line (Words field words)
 end_no_words line field words end = λ is. let same : End ≡ Words field words = one_form line _ _ end is in let never : true ≡ false = cc in cc
 
-pub node_no_end : (line : List ℕ) (y : ℕ) → IsTextOfForm line (Node y) → ¬ IsTextOfForm line End
+pub node_no_end : (line : List ℕ) (y : ℕ) → IsLineFormText line (Node y) → ¬ IsLineFormText line End
 node_no_end line y node = λ is. let same : Node y ≡ End = one_form line _ _ node is in let never : true ≡ false = cc in cc
 
 no_form : (format : Format) (line : List ℕ) → form_in_format format line ≡ None → HasNoLineForm format line
 no_form format line none = λ f is. absurd (let clash : Some f ≡ None = sym (kept_read format line f is) ∙ none in let never : true ≡ false = cc in cc)
 
-header_form : (format : Format) → line_form (header format) ≡ None
-unfolding line_form state_form stack_memory_or_node_form
+header_form : (format : Format) → line_form (header_of_format format) ≡ None
+unfolding line_form state_line_form stack_memory_or_node_form
 header_form One = refl
 header_form Two = refl
 
 -- a header has none of the forms
-pub header_formless : (line : List ℕ) (format : Format) → line ≡ header format → (f : LineForm) → ¬ IsTextOfForm line f
+pub header_formless : (line : List ℕ) (format : Format) → line ≡ header_of_format format → (f : LineForm) → ¬ IsLineFormText line f
 header_formless line format is = λ f spelled. absurd (let clash : Some f ≡ None = sym (form_read line f spelled) ∙ ap line_form is ∙ header_form format in let never : true ≡ false = cc in cc)
 
 -- ---- the state after lines
@@ -91,18 +91,18 @@ header_formless line format is = λ f spelled. absurd (let clash : Some f ≡ No
 -- what may come next, by the lines so far
 abbrev pub StandsAt : ImageReadStage → List (List ℕ) → Type 0
 StandsAt stage.Header before = before ≡ []
-StandsAt stage.Open before = (before ≢ []) × (¬ HoldsForOneElement IsEndLine before) × (¬ HoldsForOneElement IsNodeLine before)
-StandsAt (stage.Block node) before = (before ≢ []) × (¬ HoldsForOneElement IsEndLine before) × HoldsForOneElement IsNodeLine before
-StandsAt stage.Ended before = (before ≢ []) × HoldsForOneElement IsEndLine before
+StandsAt stage.Open before = (before ≢ []) × (¬ HoldsForSomeElement IsEndLine before) × (¬ HoldsForSomeElement IsNodeLine before)
+StandsAt (stage.Block node) before = (before ≢ []) × (¬ HoldsForSomeElement IsEndLine before) × HoldsForSomeElement IsNodeLine before
+StandsAt stage.Ended before = (before ≢ []) × HoldsForSomeElement IsEndLine before
 
 -- the state is that after the lines so far
 pub record IsAfter (progress : ImageReadProgress) (before : List (List ℕ)) : Type 0 where
   pub stands : StandsAt progress.stage before
   pub sized : IsSized progress
   pub format : before ≢ [] → progress.format ≡ format_of_first_line before
-  pub held : (node : ℕ) → progress.stage ≡ stage.Block node → (field_lines : List (Field × List ℕ)) × HasLastFieldLines before field_lines × (progress.held ≡ run_state_after load_run_state (field_line_writes field_lines))
-  pub blocks : (yxx n : ℕ) → number_of_yxx yxx ≡ Some n → Decides (get_or progress.blocks n false) (HoldsForOneElement (IsNodeLineOf yxx) before)
-  pub given : (node : ℕ) → progress.stage ≡ stage.Block node → (field : Field) → HasCell field → Decides (get_or progress.given (field_number field) false) (IsFieldGiven before field)
+  pub held : (node : ℕ) → progress.stage ≡ stage.Block node → (field_lines : List (Field × List ℕ)) × HasLastBlockFieldLines before field_lines × (progress.held ≡ run_state_after_words run_state_at_load (field_line_writes field_lines))
+  pub blocks : (decimal_name n : ℕ) → node_number_of_name decimal_name ≡ Some n → Decides (get_or progress.blocks n false) (HoldsForSomeElement (IsLineBeginningNode decimal_name) before)
+  pub given : (node : ℕ) → progress.stage ≡ stage.Block node → (field : Field) → IsFieldWithinBank field → Decides (get_or progress.given (field_number field) false) (IsFieldGiven before field)
 
 -- ---- a line after the header that is not allowed there
 
@@ -151,13 +151,13 @@ misplaced stage.Ended format found before line same is behind stands = (λ e. (s
 -- ---- a line that ends a block
 
 -- where lines give field lines of a block, one of them begins it
-lines_begin : (before : List (List ℕ)) (field_lines : List (Field × List ℕ)) → HasLastFieldLines before field_lines → HoldsForOneElement IsNodeLine before
+lines_begin : (before : List (List ℕ)) (field_lines : List (Field × List ℕ)) → HasLastBlockFieldLines before field_lines → HoldsForSomeElement IsNodeLine before
 lines_begin [] field_lines none = absurd none
 lines_begin (line ∷ before) field_lines (inl later) = inr (lines_begin before field_lines later)
 lines_begin (line ∷ before) field_lines (inr here) = inl here.0
 
 -- field lines begin no block
-fields_begin_none : (lines : List (List ℕ)) (fs gs : List (Field × List ℕ)) → AreTextsOfFieldLines lines fs → ¬ HasLastFieldLines lines gs
+fields_begin_none : (lines : List (List ℕ)) (fs gs : List (Field × List ℕ)) → AreTextsOfFieldLines lines fs → ¬ HasLastBlockFieldLines lines gs
 fields_begin_none [] fs gs spelled = λ none. none
 fields_begin_none (line ∷ lines) [] gs spelled = absurd spelled
 fields_begin_none (line ∷ lines) (f ∷ fs) gs spelled = λ gives. elim gives [
@@ -182,7 +182,7 @@ fields_same (line ∷ lines) (f ∷ fs) (g ∷ gs) first second =
     let word_lists : f.1 ≡ g.1 = cc in
     joined f.0 g.0 f.1 g.1 fs gs fields word_lists rest
 
-lines_same : (before : List (List ℕ)) (fs gs : List (Field × List ℕ)) → HasLastFieldLines before fs → HasLastFieldLines before gs → fs ≡ gs
+lines_same : (before : List (List ℕ)) (fs gs : List (Field × List ℕ)) → HasLastBlockFieldLines before fs → HasLastBlockFieldLines before gs → fs ≡ gs
 lines_same [] fs gs first second = absurd first
 lines_same (line ∷ before) fs gs (inl first) (inl second) = lines_same before fs gs first second
 lines_same (line ∷ before) fs gs (inl first) (inr second) = absurd (fields_begin_none before gs fs second.1 first)
@@ -190,17 +190,17 @@ lines_same (line ∷ before) fs gs (inr first) (inl second) = absurd (fields_beg
 lines_same (line ∷ before) fs gs (inr first) (inr second) = fields_same before fs gs first.1 second.1
 
 block_unsteady : (progress : ImageReadProgress) (before : List (List ℕ)) (line : List ℕ) (node : ℕ) → IsAfter progress before → progress.stage ≡ stage.Block node → IsNodeLine line ⊎ IsEndLine line
-    → Decides (is_inconsistent_state progress.held) (IsInconsistentBlockEnd before line)
+    → Decides (is_inconsistent_run_state progress.held) (IsInconsistentBlockEnd before line)
 block_unsteady progress before line node after is ends =
     let held = after.held node is in (
-      λ e. (ends, (held.0, held.1, ap is_inconsistent_state (sym held.2) ∙ e)),
+      λ e. (ends, (held.0, held.1, ap is_inconsistent_run_state (sym held.2) ∙ e)),
       λ unsteady.
           let same : unsteady.1.0 ≡ held.0 = lines_same before unsteady.1.0 held.0 unsteady.1.1 held.1 in
-          ap is_inconsistent_state held.2 ∙ ap (λ fs. is_inconsistent_state (run_state_after load_run_state (field_line_writes fs))) (sym same) ∙ unsteady.1.2,
+          ap is_inconsistent_run_state held.2 ∙ ap (λ fs. is_inconsistent_run_state (run_state_after_words run_state_at_load (field_line_writes fs))) (sym same) ∙ unsteady.1.2,
     )
 
 -- before the first block
-open_steady : (before : List (List ℕ)) (line : List ℕ) → ¬ HoldsForOneElement IsNodeLine before → Decides false (IsInconsistentBlockEnd before line)
+open_steady : (before : List (List ℕ)) (line : List ℕ) → ¬ HoldsForSomeElement IsNodeLine before → Decides false (IsInconsistentBlockEnd before line)
 open_steady before line none = (λ e. cc, λ unsteady. absurd (none (lines_begin before unsteady.1.0 unsteady.1.1)))
 
 pub end_unsteady : (st : ImageReadStage) (progress : ImageReadProgress) (before : List (List ℕ)) (line : List ℕ) → IsAfter progress before → progress.stage ≡ st → StandsAt st before → is_misplaced_line st (Some End) ≡ false → IsEndLine line
@@ -210,7 +210,7 @@ end_unsteady stage.Open progress before line after is stands placed end = open_s
 end_unsteady (stage.Block node) progress before line after is stands placed end = block_unsteady progress before line node after is (inr end)
 end_unsteady stage.Ended progress before line after is stands placed end = cc
 
-pub node_unsteady : (st : ImageReadStage) (progress : ImageReadProgress) (before : List (List ℕ)) (line : List ℕ) (y : ℕ) → IsAfter progress before → progress.stage ≡ st → StandsAt st before → is_misplaced_line st (Some (Node y)) ≡ false → IsTextOfForm line (Node y)
+pub node_unsteady : (st : ImageReadStage) (progress : ImageReadProgress) (before : List (List ℕ)) (line : List ℕ) (y : ℕ) → IsAfter progress before → progress.stage ≡ st → StandsAt st before → is_misplaced_line st (Some (Node y)) ≡ false → IsLineFormText line (Node y)
     → Decides (ends_inconsistent_block st progress.held (Some (Node y))) (IsInconsistentBlockEnd before line)
 node_unsteady stage.Header progress before line y after is stands placed begins_with_text = cc
 node_unsteady stage.Open progress before line y after is stands placed begins_with_text = open_steady before line stands.2

@@ -2,8 +2,8 @@
 -- "Images"; this project's own).
 use Rattle.std.specs.Prelude.{ℕ, ◌+◌, ◌-◌, ◌==◌, ◌||◌, nat_lt, if◌then◌else◌, Bool, true, false, List, [], ◌∷◌, slice_index_or, slice_set, ◌&&◌, not}
 use Rattle.std.specs.List.{list_any}
-use Rattle.ga_node.specs.declared.place.Place.{Place}
-use Rattle.ga_node.specs.declared.place.Place.TheVariants as place
+use Rattle.ga_node.specs.declared.place.NodePlace.{NodePlace}
+use Rattle.ga_node.specs.declared.place.NodePlace.TheVariants as place
 use Rattle.ga_node.specs.Places.{greatest_place_value}
 use Rattle.ga_image.specs.declared.field.Field.{Field}
 use Rattle.ga_image.specs.declared.field.Field.TheVariants.{A, B, P, I, Io, Carry, Slot, Wait, Stop, Data, Return, Ram, Rom}
@@ -23,7 +23,7 @@ format_has_field One _ = false
 
 -- The place of a node that a field names. A node at load has the newest of its stacks' cells at 0, and the older ones follow:
 -- the words of the data stack are in T, S and the cells from 0 on, and those of the return stack in R and the cells.
-abbrev pub field_place : Field → Place
+abbrev pub field_place : Field → NodePlace
 field_place A = place.A
 field_place B = place.B
 field_place P = place.P
@@ -67,17 +67,17 @@ next_field (Rom cell) = Rom (cell + 1)
 next_field register = register
 
 -- words for a field and for those after it
-abbrev pub field_writes : Field → List ℕ → List (Field × ℕ)
-field_writes field [] = []
-field_writes field (word ∷ words) = (field, word) ∷ field_writes (next_field field) words
+abbrev pub fields_with_words : Field → List ℕ → List (Field × ℕ)
+fields_with_words field [] = []
+fields_with_words field (word ∷ words) = (field, word) ∷ fields_with_words (next_field field) words
 
 -- whether `count` words exceed the last word of a stack or the last cell of a memory
-abbrev pub exceeds_field : Field → ℕ → Bool
-exceeds_field (Data k) count = nat_lt 10 (k + count)
-exceeds_field (Return k) count = nat_lt 9 (k + count)
-exceeds_field (Ram cell) count = nat_lt 64 (cell + count)
-exceeds_field (Rom cell) count = nat_lt 64 (cell + count)
-exceeds_field register count = false
+abbrev pub row_exceeds_bank : Field → ℕ → Bool
+row_exceeds_bank (Data k) count = nat_lt 10 (k + count)
+row_exceeds_bank (Return k) count = nat_lt 9 (k + count)
+row_exceeds_bank (Ram cell) count = nat_lt 64 (cell + count)
+row_exceeds_bank (Rom cell) count = nat_lt 64 (cell + count)
+row_exceeds_bank register count = false
 
 -- the greatest word that a field holds
 abbrev pub greatest_field_word : Field → ℕ
@@ -95,29 +95,29 @@ has_repeated_field given (w ∷ ws) = slice_index_or given (field_number w.0) fa
 -- ---- a block's wait, stop and slot, and which of these are consistent
 
 -- at load a node neither waits nor is stopped, and a fetch is due
-abbrev pub load_run_state : RunState
-load_run_state = record { wait = 0; stop = 0; slot = 4 }
+abbrev pub run_state_at_load : RunState
+run_state_at_load = record { wait = 0; stop = 0; slot = 4 }
 
 -- a block's wait, stop and slot, with a word for a field
-abbrev pub with_run_state_code : RunState → Field → ℕ → RunState
-with_run_state_code held Wait word = record held { wait = word }
-with_run_state_code held Stop word = record held { stop = word }
-with_run_state_code held Slot word = record held { slot = word }
-with_run_state_code held _ word = held
+abbrev pub run_state_with_field_word : RunState → Field → ℕ → RunState
+run_state_with_field_word held Wait word = record held { wait = word }
+run_state_with_field_word held Stop word = record held { stop = word }
+run_state_with_field_word held Slot word = record held { slot = word }
+run_state_with_field_word held _ word = held
 
 -- a block's wait, stop and slot, with one word more
-abbrev pub with_run_state_write : RunState → Field × ℕ → RunState
-with_run_state_write held w = with_run_state_code held w.0 w.1
+abbrev pub run_state_with_field_write : RunState → Field × ℕ → RunState
+run_state_with_field_write held w = run_state_with_field_word held w.0 w.1
 
 -- a block's wait, stop and slot after words, one after the other
-abbrev pub run_state_after : RunState → List (Field × ℕ) → RunState
-run_state_after held [] = held
-run_state_after held (w ∷ ws) = run_state_after (with_run_state_write held w) ws
+abbrev pub run_state_after_words : RunState → List (Field × ℕ) → RunState
+run_state_after_words held [] = held
+run_state_after_words held (w ∷ ws) = run_state_after_words (run_state_with_field_write held w) ws
 
 -- Whether a block's wait, stop and slot are inconsistent: the node waits and is stopped, or it waits for an instruction word
 -- where none is due, or for another word where an instruction word is due. The numbers of waits for an instruction word are
 -- below 32.
-abbrev pub is_inconsistent_state : RunState → Bool
-is_inconsistent_state held =
+abbrev pub is_inconsistent_run_state : RunState → Bool
+is_inconsistent_run_state held =
     not (held.wait == 0)
     && (not (held.stop == 0) || (if nat_lt held.wait 32 then not (held.slot == 4) else held.slot == 4))

@@ -2,10 +2,10 @@
 use Rattle.std.specs.Prelude.{ℕ, ◌+◌, ◌==◌, ◌&&◌, nat_le, nat_lt, if◌then◌else◌, Bool, true, false, List, [], ◌∷◌, ◌++◌, length, Option, Some, None, option_map}
 use Rattle.std.specs.List.{list_any}
 use Rattle.ga_text.specs.Lines.{Line}
-use Rattle.ga_node.specs.declared.place.Place.{Place}
-use Rattle.ga_node.specs.declared.place.Place.TheVariants.{A, B, P, Ram, Rom}
+use Rattle.ga_node.specs.declared.place.NodePlace.{NodePlace}
+use Rattle.ga_node.specs.declared.place.NodePlace.TheVariants.{A, B, P, Ram, Rom}
 use Rattle.ga_grid.specs.declared.node_id.NodeId.{NodeId}
-use Rattle.ga_grid.specs.Grid.{node_id, number_of_yxx}
+use Rattle.ga_grid.specs.Grid.{node_id, node_number_of_name}
 use Rattle.ga_image.specs.declared.given.GivenRange.{GivenRange}
 use Rattle.ga_image.specs.declared.given.GivenWords.{GivenWords}
 use Rattle.ga_image.specs.declared.given.GivenWords.TheVariants.{All, Ranges}
@@ -18,23 +18,23 @@ use Rattle.ga_image.specs.FirstFault.{format_of_first_line}
 -- ---- whether a word is given
 
 -- the cell of RAM, or of ROM, that a place is
-abbrev pub ram_cell_of_place : Place → Option ℕ
+abbrev pub ram_cell_of_place : NodePlace → Option ℕ
 ram_cell_of_place (Ram cell) = Some cell
 ram_cell_of_place _ = None
 
-abbrev pub rom_cell_of_place : Place → Option ℕ
+abbrev pub rom_cell_of_place : NodePlace → Option ℕ
 rom_cell_of_place (Rom cell) = Some cell
 rom_cell_of_place _ = None
 
-abbrev pub is_register_a : Place → Bool
+abbrev pub is_register_a : NodePlace → Bool
 is_register_a A = true
 is_register_a _ = false
 
-abbrev pub is_register_b : Place → Bool
+abbrev pub is_register_b : NodePlace → Bool
 is_register_b B = true
 is_register_b _ = false
 
-abbrev pub is_register_p : Place → Bool
+abbrev pub is_register_p : NodePlace → Bool
 is_register_p P = true
 is_register_p _ = false
 
@@ -44,39 +44,39 @@ is_cell_in_row first count (Some cell) = nat_le first cell && nat_lt cell (first
 is_cell_in_row first count None = false
 
 -- A place is the register A, B or P that is given, or one of the cells from the first on.
-abbrev pub is_place_in_range : Place → ℕ → Place → Bool
-is_place_in_range A count place = is_register_a place
-is_place_in_range B count place = is_register_b place
-is_place_in_range P count place = is_register_p place
-is_place_in_range (Ram first) count place = is_cell_in_row first count (ram_cell_of_place place)
-is_place_in_range (Rom first) count place = is_cell_in_row first count (rom_cell_of_place place)
-is_place_in_range _ count place = false
+abbrev pub is_place_in_row : NodePlace → ℕ → NodePlace → Bool
+is_place_in_row A count place = is_register_a place
+is_place_in_row B count place = is_register_b place
+is_place_in_row P count place = is_register_p place
+is_place_in_row (Ram first) count place = is_cell_in_row first count (ram_cell_of_place place)
+is_place_in_row (Rom first) count place = is_cell_in_row first count (rom_cell_of_place place)
+is_place_in_row _ count place = false
 
 -- one of the words of a row is that of a place of the node
-abbrev pub range_gives_word : NodeId → Place → GivenRange → Bool
-range_gives_word node place range = range.node.number == node.number && is_place_in_range range.first range.count place
+abbrev pub range_gives_word : NodeId → NodePlace → GivenRange → Bool
+range_gives_word node place range = range.node.number == node.number && is_place_in_row range.first range.count place
 
 -- the text gives the word of a place of the node
-abbrev pub is_word_given : GivenWords → NodeId → Place → Bool
+abbrev pub is_word_given : GivenWords → NodeId → NodePlace → Bool
 is_word_given All node place = true
 is_word_given (Ranges ranges) node place = list_any (range_gives_word node place) ranges.items
 
 -- ---- what an image gives
 
 -- the words that a field line gives to the node of its block
-abbrev pub line_ranges : Option NodeId → Option LineForm → List GivenRange
-line_ranges (Some node) (Some (Words field words)) = record { node = node; first = field_place field; count = length words } ∷ []
-line_ranges _ _ = []
+abbrev pub given_ranges_of_line : Option NodeId → Option LineForm → List GivenRange
+given_ranges_of_line (Some node) (Some (Words field words)) = record { node = node; first = field_place field; count = length words } ∷ []
+given_ranges_of_line _ _ = []
 
 -- the node whose block continues after a line
-abbrev pub block_node : Option NodeId → Option LineForm → Option NodeId
-block_node before (Some (Node yxx)) = option_map node_id (number_of_yxx yxx)
-block_node before _ = before
+abbrev pub node_of_open_block : Option NodeId → Option LineForm → Option NodeId
+node_of_open_block before (Some (Node decimal_name)) = option_map node_id (node_number_of_name decimal_name)
+node_of_open_block before _ = before
 
 -- the words that lines give, the first of which continue the block of this node
-unfoldable pub given_ranges : Option NodeId → List Line → List GivenRange
-given_ranges block [] = []
-given_ranges block (text ∷ texts) = line_ranges block (line_form text) ++ given_ranges (block_node block (line_form text)) texts
+unfoldable pub ranges_given_by_lines : Option NodeId → List Line → List GivenRange
+ranges_given_by_lines block [] = []
+ranges_given_by_lines block (text ∷ texts) = given_ranges_of_line block (line_form text) ++ ranges_given_by_lines (node_of_open_block block (line_form text)) texts
 
 -- a word that an image of format 2 doesn't give is as its dump had it
 abbrev pub format_gives_all_words : Format → Bool
@@ -84,8 +84,8 @@ format_gives_all_words One = false
 format_gives_all_words Two = true
 
 -- the words that an image gives, which are all of format 2
-abbrev pub image_ranges : List Line → Option (List GivenRange)
-image_ranges texts = if format_gives_all_words (format_of_first_line texts) then None else Some (given_ranges None texts)
+abbrev pub given_ranges_of_image : List Line → Option (List GivenRange)
+given_ranges_of_image texts = if format_gives_all_words (format_of_first_line texts) then None else Some (ranges_given_by_lines None texts)
 
 -- given words as their list, if they aren't all
 abbrev pub ranges_of_given_words : GivenWords → Option (List GivenRange)

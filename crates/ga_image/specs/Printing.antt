@@ -4,19 +4,19 @@ use Rattle.std.specs.Prelude.{ℕ, ◌+◌, ◌^◌, ◌<◌, ◌==◌, if◌the
 use Rattle.std.specs.List.{AllByRecursion, list_all}
 use Rattle.std.specs.Int.{from_bool}
 use Rattle.ga_text.specs.Lines.{Text, Line}
-use Rattle.ga_stacks.specs.Ring.{fresh_word}
-use Rattle.ga_node.specs.Record.{NodeRecord, fresh_record, NodeState}
+use Rattle.ga_stacks.specs.Ring.{initial_stack_word}
+use Rattle.ga_node.specs.Record.{NodeRecord, record_at_load_defaults, NodeState}
 use Rattle.ga_node.specs.State.{wait_code}
-use Rattle.ga_grid.specs.Grid.{load_p_of}
+use Rattle.ga_grid.specs.Grid.{initial_p_of_node}
 use Rattle.ga_image.specs.declared.field.Field.{Field}
 use Rattle.ga_image.specs.declared.field.Field.TheVariants.{A, B, P, I, Io, Carry, Slot, Wait, Stop, Data, Return, Ram, Rom}
 use Rattle.ga_image.specs.declared.field.Format.TheVariants.{Two}
 use Rattle.ga_image.specs.Spelling.{LineForm, Node, Words, End, field_name, field_numbers_text, field_code_text}
-use Rattle.ga_text.specs.Digits.{decimal3_of}
-use Rattle.ga_image.specs.Grammar.{header, Block, block_forms, IsImage}
+use Rattle.ga_text.specs.Digits.{three_decimal_digits}
+use Rattle.ga_image.specs.Grammar.{header_of_format, NodeBlock, line_forms_of_block, IsImage}
 use Rattle.ga_node.specs.declared.wait.Wait.{Wait as NodeWait}
 use Rattle.ga_node.specs.declared.wait.Wait.TheVariants.{Nothing, Fetch, Read, Write}
-use Rattle.ga_grid.specs.Chip.{records_of}
+use Rattle.ga_grid.specs.Chip.{records_of_chip}
 
 -- ---- lines
 
@@ -29,10 +29,10 @@ field_text Stop words = field_name Stop ++ field_code_text Stop (slice_index wor
 field_text field words = field_name field ++ field_numbers_text field words
 
 -- the text of a line after the header
-abbrev pub line_text : LineForm → Line
-line_text (Node yxx) = codes "node " ++ decimal3_of yxx
-line_text (Words field words) = field_text field words
-line_text End = codes "end"
+abbrev pub text_of_line_form : LineForm → Line
+text_of_line_form (Node decimal_name) = codes "node " ++ three_decimal_digits decimal_name
+text_of_line_form (Words field words) = field_text field words
+text_of_line_form End = codes "end"
 
 -- lines, each ended by a line feed
 abbrev pub lines_text : List Line → Text
@@ -73,46 +73,46 @@ register_lines fresh node =
     ++ word_line_unless_default fresh.io Io node.io)))
 
 -- the lines of the carry and the slot, of the stacks, and of the wait and the stop
-abbrev pub state_lines : NodeRecord → NodeRecord → List (Field × List ℕ)
-state_lines fresh node =
+abbrev pub stack_and_run_state_lines : NodeRecord → NodeRecord → List (Field × List ℕ)
+stack_and_run_state_lines fresh node =
     word_line_unless_default (from_bool fresh.carry) Carry (from_bool node.carry)
     ++ (word_line_unless_default fresh.slot Slot node.slot
-    ++ (line_unless_default fresh_word (Data 0) node.d
-    ++ (line_unless_default fresh_word (Return 0) node.r
+    ++ (line_unless_default initial_stack_word (Data 0) node.d
+    ++ (line_unless_default initial_stack_word (Return 0) node.r
     ++ (word_line_unless_default (wait_code fresh.wait) Wait (wait_code node.wait)
     ++ word_line_unless_default fresh.stop Stop node.stop))))
 
 -- the lines of a node, which at load would be fresh
-abbrev pub changed_lines_from_fresh : NodeRecord → NodeRecord → List (Field × List ℕ)
-changed_lines_from_fresh fresh node =
+abbrev pub changed_lines_since_load : NodeRecord → NodeRecord → List (Field × List ℕ)
+changed_lines_since_load fresh node =
     register_lines fresh node
-    ++ (state_lines fresh node
+    ++ (stack_and_run_state_lines fresh node
     ++ (memory_lines Ram node.ram
     ++ memory_lines Rom node.rom))
 
 -- the lines of a node by its number
 unfoldable pub changed_lines_of_node : ℕ → NodeRecord → List (Field × List ℕ)
-changed_lines_of_node number node = changed_lines_from_fresh (fresh_record (load_p_of number)) node
+changed_lines_of_node number node = changed_lines_since_load (record_at_load_defaults (initial_p_of_node number)) node
 
 -- ---- the text of a chip
 
 -- the block of a node, unless it has no lines
-abbrev pub block_unless_empty : ℕ → List (Field × List ℕ) → List Block
+abbrev pub block_unless_empty : ℕ → List (Field × List ℕ) → List NodeBlock
 block_unless_empty number [] = []
 block_unless_empty number (line ∷ lines) = record { node = number; field_lines = line ∷ lines } ∷ []
 
 -- the blocks of nodes from a number on
-unfoldable pub blocks_from_node : ℕ → List NodeRecord → List Block
+unfoldable pub blocks_from_node : ℕ → List NodeRecord → List NodeBlock
 blocks_from_node number [] = []
 blocks_from_node number (node ∷ nodes) = block_unless_empty number (changed_lines_of_node number node) ++ blocks_from_node (number + 1) nodes
 
 -- the forms of the lines after the header
 abbrev pub line_forms_after_header : List NodeRecord → List LineForm
-line_forms_after_header nodes = flat_map block_forms (blocks_from_node 0 nodes) ++ End ∷ []
+line_forms_after_header nodes = flat_map line_forms_of_block (blocks_from_node 0 nodes) ++ End ∷ []
 
 -- the whole text
 unfoldable pub printed_image : List NodeRecord → Text
-printed_image nodes = lines_text (header Two ∷ map line_text (line_forms_after_header nodes))
+printed_image nodes = lines_text (header_of_format Two ∷ map text_of_line_form (line_forms_after_header nodes))
 
 -- ---- a text that describes a chip, and the chips that it can describe
 
@@ -128,7 +128,7 @@ abbrev pub AreStackOrMemoryWords : ℕ → List ℕ → Type 0
 AreStackOrMemoryWords size words = AreEighteenBitWords words × (length words ≡ size)
 
 -- the ranges of the registers that hold words
-pub record HasSoundRegisters (node : NodeRecord) : Type 0 where
+pub record AreRegistersInRange (node : NodeRecord) : Type 0 where
   pub a : node.a < 2 ^ 18
   pub b : node.b < 2 ^ 9
   pub p : node.p < 2 ^ 10
@@ -136,7 +136,7 @@ pub record HasSoundRegisters (node : NodeRecord) : Type 0 where
   pub io : node.io < 2 ^ 18
 
 -- the sizes and ranges of the slot, of the stacks, and of the wait and the stop
-pub record HasSoundState (node : NodeRecord) : Type 0 where
+pub record AreStacksAndRunStateInRange (node : NodeRecord) : Type 0 where
   pub slot : node.slot ≤ 4
   pub d : AreStackOrMemoryWords 10 node.d
   pub r : AreStackOrMemoryWords 9 node.r
@@ -144,17 +144,17 @@ pub record HasSoundState (node : NodeRecord) : Type 0 where
   pub stop : node.stop ≤ 3
 
 -- sizes and ranges of all that a node holds
-pub record IsSoundRecord (node : NodeRecord) : Type 0 where
-  pub registers : HasSoundRegisters node
-  pub state : HasSoundState node
+pub record IsRecordInRange (node : NodeRecord) : Type 0 where
+  pub registers : AreRegistersInRange node
+  pub state : AreStacksAndRunStateInRange node
   pub ram : AreStackOrMemoryWords 64 node.ram
   pub rom : AreStackOrMemoryWords 64 node.rom
 
 -- each of 144 nodes is sound
-pub record AreSoundRecords (nodes : List NodeRecord) : Type 0 where
+pub record AreRecordsInRange (nodes : List NodeRecord) : Type 0 where
   pub size : length nodes ≡ 144
-  pub each : AllByRecursion IsSoundRecord nodes
+  pub each : AllByRecursion IsRecordInRange nodes
 
 -- the lines are an image of a chip with these records
 abbrev pub IsImageOfRecords : List Line → List NodeRecord → Type 0
-IsImageOfRecords texts nodes = (chip : List NodeState) × IsImage texts chip × (records_of chip ≡ nodes)
+IsImageOfRecords texts nodes = (chip : List NodeState) × IsImage texts chip × (records_of_chip chip ≡ nodes)

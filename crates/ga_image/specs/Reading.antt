@@ -1,19 +1,19 @@
 -- Reading an image line by line, up to the first fault (docs/REFERENCE.md, "Images"; this project's own).
-use Rattle.ga_image.specs.declared.fault.ImageCause.TheVariants as cause
+use Rattle.ga_image.specs.declared.fault.ImageFaultCause.TheVariants as cause
 use Rattle.std.specs.Prelude.{ℕ, Bool, List, ◌≡◌, ◌+◌, ◌⊎◌, nat_lt, true, false, ◌||◌, if◌then◌else◌, [], ◌∷◌, length, replicate, slice_index_or, slice_set, is_none, Option, Some, None, Result, Ok, Err}
 use Rattle.ga_node.specs.Record.{NodeState}
 use Rattle.ga_image.specs.declared.field.Format.{Format}
 use Rattle.ga_image.specs.declared.field.RunState.{RunState}
-use Rattle.ga_grid.specs.Grid.{default_chip, number_of_yxx}
-use Rattle.ga_image.specs.declared.fault.ImageCause.{ImageCause}
+use Rattle.ga_grid.specs.Grid.{default_chip, node_number_of_name}
+use Rattle.ga_image.specs.declared.fault.ImageFaultCause.{ImageFaultCause}
 use Rattle.ga_image.specs.declared.fault.ImageFault.{ImageFault}
 use Rattle.ga_image.specs.declared.field.Field.{Field}
 use Rattle.ga_image.specs.declared.field.Format.TheVariants.{One, Two}
-use Rattle.ga_image.specs.Fields.{load_run_state, with_run_state_write, is_inconsistent_state, field_count, format_has_field, field_number, field_writes, exceeds_field, has_too_great_word, has_repeated_field}
+use Rattle.ga_image.specs.Fields.{run_state_at_load, run_state_with_field_write, is_inconsistent_run_state, field_count, format_has_field, field_number, fields_with_words, row_exceeds_bank, has_too_great_word, has_repeated_field}
 use Rattle.ga_image.specs.Spelling.{LineForm, Node, Words, End, line_form}
 use Rattle.ga_text.specs.Lines.{Line, max_input_line}
-use Rattle.ga_image.specs.Grammar.{is_header_of, format_of_header, chip_with_word}
-use Rattle.ga_image.specs.FirstFault.{memory_fault}
+use Rattle.ga_image.specs.Grammar.{is_header_of_format, format_of_header, chip_with_word}
+use Rattle.ga_image.specs.FirstFault.{out_of_memory_fault}
 
 -- ---- the state after the lines of an image, one after the other
 
@@ -42,31 +42,31 @@ abbrev pub no_fields_given : List Bool
 no_fields_given = replicate field_count false
 
 -- what is known before the first line
-unfoldable pub initial_progress : ImageReadProgress
-initial_progress = record {
+unfoldable pub initial_read_progress : ImageReadProgress
+initial_read_progress = record {
   format = One;
   stage = Header;
   blocks = replicate 144 false;
   given = no_fields_given;
-  held = load_run_state;
+  held = run_state_at_load;
   chip = default_chip;
 }
 
 -- the first line is a header
 abbrev pub is_header : Line → Bool
-is_header text = is_header_of text One || is_header_of text Two
+is_header text = is_header_of_format text One || is_header_of_format text Two
 
 -- the form of a line, if the format has it
-abbrev pub allowed_form : Format → Option LineForm → Option LineForm
-allowed_form format (Some (Words field words)) = if format_has_field format field then Some (Words field words) else None
-allowed_form format other = other
+abbrev pub form_if_allowed : Format → Option LineForm → Option LineForm
+form_if_allowed format (Some (Words field words)) = if format_has_field format field then Some (Words field words) else None
+form_if_allowed format other = other
 
 abbrev pub form_in_format : Format → Line → Option LineForm
-form_in_format format text = allowed_form format (line_form text)
+form_in_format format text = form_if_allowed format (line_form text)
 
 -- whether the line has no form, is a field line before the first block, or comes after the end
 abbrev pub is_misplaced_line : ImageReadStage → Option LineForm → Bool
-is_misplaced_line Open (Some (Node yxx)) = false
+is_misplaced_line Open (Some (Node decimal_name)) = false
 is_misplaced_line Open (Some End) = false
 is_misplaced_line (Block node) (Some line_form) = false
 is_misplaced_line _ _ = true
@@ -77,99 +77,99 @@ node_has_block progress (Some node) = slice_index_or progress.blocks node false
 node_has_block progress None = false
 
 -- the first of these tests that holds
-abbrev pub first_true_cause : List (ImageCause × Bool) → Option ImageCause
+abbrev pub first_true_cause : List (ImageFaultCause × Bool) → Option ImageFaultCause
 first_true_cause [] = None
 first_true_cause (test ∷ tests) = if test.1 then Some test.0 else first_true_cause tests
 
 -- what may be wrong with a line that begins the block of a node, in the order in which it is answered
-unfoldable pub node_fault : ImageReadProgress → ℕ → Option ImageCause
-node_fault progress yxx = first_true_cause (
-    (cause.Node, is_none (number_of_yxx yxx))
-    ∷ (cause.Repeated, node_has_block progress (number_of_yxx yxx))
+unfoldable pub node_line_fault : ImageReadProgress → ℕ → Option ImageFaultCause
+node_line_fault progress decimal_name = first_true_cause (
+    (cause.UnknownNode, is_none (node_number_of_name decimal_name))
+    ∷ (cause.RepeatedNodeOrField, node_has_block progress (node_number_of_name decimal_name))
     ∷ [])
 
 -- what may be wrong with a field line, in the order in which it is answered
-unfoldable pub field_line_fault : ImageReadProgress → Field → List ℕ → Option ImageCause
+unfoldable pub field_line_fault : ImageReadProgress → Field → List ℕ → Option ImageFaultCause
 field_line_fault progress field words = first_true_cause (
-    (cause.Place, exceeds_field field (length words))
-    ∷ (cause.Word, has_too_great_word field words)
-    ∷ (cause.Repeated, has_repeated_field progress.given (field_writes field words))
+    (cause.Place, row_exceeds_bank field (length words))
+    ∷ (cause.WordOutOfRange, has_too_great_word field words)
+    ∷ (cause.RepeatedNodeOrField, has_repeated_field progress.given (fields_with_words field words))
     ∷ [])
 
 -- Whether the line ends a block whose wait, stop and slot are inconsistent.
 abbrev pub ends_inconsistent_block : ImageReadStage → RunState → Option LineForm → Bool
-ends_inconsistent_block (Block node) held (Some (Node yxx)) = is_inconsistent_state held
-ends_inconsistent_block (Block node) held (Some End) = is_inconsistent_state held
+ends_inconsistent_block (Block node) held (Some (Node decimal_name)) = is_inconsistent_run_state held
+ends_inconsistent_block (Block node) held (Some End) = is_inconsistent_run_state held
 ends_inconsistent_block _ held _ = false
 
 -- the fault of a line that is allowed there, by its form
-abbrev pub line_form_fault : ImageReadProgress → Option LineForm → Option ImageCause
-line_form_fault progress (Some (Node yxx)) = node_fault progress yxx
+abbrev pub line_form_fault : ImageReadProgress → Option LineForm → Option ImageFaultCause
+line_form_fault progress (Some (Node decimal_name)) = node_line_fault progress decimal_name
 line_form_fault progress (Some (Words field words)) = field_line_fault progress field words
 line_form_fault progress _ = None
 
 -- the fault of a line after the first: the first of its faults in the order in which they are reported
-abbrev pub fault_after_header : ImageReadProgress → Option LineForm → Option ImageCause
+abbrev pub fault_after_header : ImageReadProgress → Option LineForm → Option ImageFaultCause
 fault_after_header progress line_form =
-    if is_misplaced_line progress.stage line_form then Some cause.Line
+    if is_misplaced_line progress.stage line_form then Some cause.InvalidLine
     else if ends_inconsistent_block progress.stage progress.held line_form then Some cause.State
     else line_form_fault progress line_form
 
 -- what may be wrong with a line that isn't too long, by what may come next
-abbrev pub line_fault : ImageReadStage → ImageReadProgress → Line → Option ImageCause
-line_fault Header progress text = if is_header text then None else Some cause.Header
+abbrev pub line_fault : ImageReadStage → ImageReadProgress → Line → Option ImageFaultCause
+line_fault Header progress text = if is_header text then None else Some cause.WrongHeader
 line_fault _ progress text = fault_after_header progress (form_in_format progress.format text)
 
 -- The first fault of a line; that it is too long comes before all others.
-unfoldable pub first_fault_of_line : ImageReadProgress → Line → Option ImageCause
-first_fault_of_line progress text = if nat_lt max_input_line (length text) then Some cause.Long else line_fault progress.stage progress text
+unfoldable pub first_fault_of_line : ImageReadProgress → Line → Option ImageFaultCause
+first_fault_of_line progress text = if nat_lt max_input_line (length text) then Some cause.LineTooLong else line_fault progress.stage progress text
 
 -- the node whose block the next line may continue, or else 0
-abbrev pub node_of_stage : ImageReadStage → ℕ
-node_of_stage (Block node) = node
-node_of_stage _ = 0
+abbrev pub block_node_of_stage : ImageReadStage → ℕ
+block_node_of_stage (Block node) = node
+block_node_of_stage _ = 0
 
 -- a word of the block is written
-abbrev pub with_field_write : ImageReadProgress → Field × ℕ → ImageReadProgress
-with_field_write progress w = record progress {
+abbrev pub progress_after_field_write : ImageReadProgress → Field × ℕ → ImageReadProgress
+progress_after_field_write progress w = record progress {
   given = slice_set progress.given (field_number w.0) true;
-  held = with_run_state_write progress.held w;
-  chip = chip_with_word progress.chip (node_of_stage progress.stage) w;
+  held = run_state_with_field_write progress.held w;
+  chip = chip_with_word progress.chip (block_node_of_stage progress.stage) w;
 }
 
 -- words of the block are written, one after the other
-abbrev pub with_field_writes : ImageReadProgress → List (Field × ℕ) → ImageReadProgress
-with_field_writes progress [] = progress
-with_field_writes progress (w ∷ ws) = with_field_writes (with_field_write progress w) ws
+abbrev pub progress_with_field_writes : ImageReadProgress → List (Field × ℕ) → ImageReadProgress
+progress_with_field_writes progress [] = progress
+progress_with_field_writes progress (w ∷ ws) = progress_with_field_writes (progress_after_field_write progress w) ws
 
 -- a block of the node begins
-abbrev pub with_block : ImageReadProgress → Option ℕ → ImageReadProgress
-with_block progress (Some node) = record progress {
+abbrev pub progress_with_block : ImageReadProgress → Option ℕ → ImageReadProgress
+progress_with_block progress (Some node) = record progress {
   stage = Block node;
   blocks = slice_set progress.blocks node true;
   given = no_fields_given;
-  held = load_run_state;
+  held = run_state_at_load;
 }
-with_block progress None = progress
+progress_with_block progress None = progress
 
 -- the state after a line of a form that is allowed there
-abbrev pub progress_after_form : ImageReadProgress → Option LineForm → ImageReadProgress
-progress_after_form progress (Some (Node yxx)) = with_block progress (number_of_yxx yxx)
-progress_after_form progress (Some (Words field words)) = with_field_writes progress (field_writes field words)
-progress_after_form progress (Some End) = record progress { stage = Ended }
-progress_after_form progress None = progress
+abbrev pub progress_after_line_form : ImageReadProgress → Option LineForm → ImageReadProgress
+progress_after_line_form progress (Some (Node decimal_name)) = progress_with_block progress (node_number_of_name decimal_name)
+progress_after_line_form progress (Some (Words field words)) = progress_with_field_writes progress (fields_with_words field words)
+progress_after_line_form progress (Some End) = record progress { stage = Ended }
+progress_after_line_form progress None = progress
 
 -- what is known after a line at this stage
-abbrev pub progress_after_stage : ImageReadStage → ImageReadProgress → Line → ImageReadProgress
-progress_after_stage Header progress text = record progress { format = format_of_header text; stage = Open }
-progress_after_stage _ progress text = progress_after_form progress (form_in_format progress.format text)
+abbrev pub progress_after_line_at_stage : ImageReadStage → ImageReadProgress → Line → ImageReadProgress
+progress_after_line_at_stage Header progress text = record progress { format = format_of_header text; stage = Open }
+progress_after_line_at_stage _ progress text = progress_after_line_form progress (form_in_format progress.format text)
 
 -- what is known after a line with no fault
 unfoldable pub progress_after_line : ImageReadProgress → Line → ImageReadProgress
-progress_after_line progress text = progress_after_stage progress.stage progress text
+progress_after_line progress text = progress_after_line_at_stage progress.stage progress text
 
 -- a line's fault, or what the lines after it give
-abbrev pub fault_or_result : Option ImageCause → ℕ → Result (List NodeState) ImageFault → Result (List NodeState) ImageFault
+abbrev pub fault_or_result : Option ImageFaultCause → ℕ → Result (List NodeState) ImageFault → Result (List NodeState) ImageFault
 fault_or_result (Some cause) line others = Err (record { line = line; cause = cause })
 fault_or_result None line others = others
 
@@ -179,11 +179,11 @@ result_at_image_end Ended chip line = Ok chip
 result_at_image_end _ chip line = Err (record { line = line; cause = cause.Truncated })
 
 -- the chip, or the first fault with its line
-unfoldable pub result_of_lines : ImageReadProgress → ℕ → List Line → Result (List NodeState) ImageFault
-result_of_lines progress line [] = result_at_image_end progress.stage progress.chip line
-result_of_lines progress line (text ∷ lines) = fault_or_result (first_fault_of_line progress text) line (result_of_lines (progress_after_line progress text) (line + 1) lines)
+unfoldable pub read_result_of_lines : ImageReadProgress → ℕ → List Line → Result (List NodeState) ImageFault
+read_result_of_lines progress line [] = result_at_image_end progress.stage progress.chip line
+read_result_of_lines progress line (text ∷ lines) = fault_or_result (first_fault_of_line progress text) line (read_result_of_lines (progress_after_line progress text) (line + 1) lines)
 
 -- What a call returned is what reading gives, unless memory was refused.
-abbrev pub IsImageReadResult : Result (List NodeState) ImageFault → Result (List NodeState) ImageFault → Type 0
-IsImageReadResult (Ok chip) read = read ≡ Ok chip
-IsImageReadResult (Err fault) read = (fault ≡ memory_fault) ⊎ (read ≡ Err fault)
+abbrev pub IsReadResultUnlessOutOfMemory : Result (List NodeState) ImageFault → Result (List NodeState) ImageFault → Type 0
+IsReadResultUnlessOutOfMemory (Ok chip) read = read ≡ Ok chip
+IsReadResultUnlessOutOfMemory (Err fault) read = (fault ≡ out_of_memory_fault) ⊎ (read ≡ Err fault)

@@ -15,57 +15,57 @@ use Rattle.ga_image.specs.declared.parser.ImageReadStage.{ImageReadStage as Expe
 use Rattle.ga_image.specs.Reading.{ImageReadStage, ImageReadProgress, Header, Open, Ended}
 use Rattle.ga_text.specs.Lines.{Text}
 use Rattle.ga_node.specs.Record.{NodeRecord}
-use Rattle.ga_image.specs.Grammar.{Block, block_forms}
-use Rattle.ga_image.specs.Printing.{field_text, line_text, lines_text}
+use Rattle.ga_image.specs.Grammar.{NodeBlock, line_forms_of_block}
+use Rattle.ga_image.specs.Printing.{field_text, text_of_line_form, lines_text}
 use Rattle.ga_image.specs.Reading as stage
 
 -- ---- fields with a cell that there is
 
 -- a register, a word that a stack has, or a cell that a memory has
-abbrev pub HasCell : Field → Type 0
-HasCell (Data k) = k < 10
-HasCell (Return k) = k < 9
-HasCell (Ram cell) = cell < 64
-HasCell (Rom cell) = cell < 64
-HasCell register = Unit {0}
+abbrev pub IsFieldWithinBank : Field → Type 0
+IsFieldWithinBank (Data k) = k < 10
+IsFieldWithinBank (Return k) = k < 9
+IsFieldWithinBank (Ram cell) = cell < 64
+IsFieldWithinBank (Rom cell) = cell < 64
+IsFieldWithinBank register = Unit {0}
 
 -- ---- valid words for a field
 
 -- a word for a field, which for a wait is the number of one
-abbrev pub HoldsCode : Field → ℕ → Type 0
-HoldsCode Wait word = IsWaitCode word
-HoldsCode _ word = Unit {0}
+abbrev pub IsFieldWord : Field → ℕ → Type 0
+IsFieldWord Wait word = IsWaitCode word
+IsFieldWord _ word = Unit {0}
 
-abbrev pub AreCodes : Field → List ℕ → Type 0
-AreCodes field words = AllByRecursion (HoldsCode field) words
+abbrev pub AreFieldWords : Field → List ℕ → Type 0
+AreFieldWords field words = AllByRecursion (IsFieldWord field) words
 
 -- a line, as contracts see it
-abbrev pub form_of : Line → LineForm
-form_of (line.Node number) = Node number
-form_of (line.Words field words) = Words field words.items
-form_of line.End = End
+abbrev pub form_of_parsed_line : Line → LineForm
+form_of_parsed_line (line.Node number) = Node number
+form_of_parsed_line (line.Words field words) = Words field words.items
+form_of_parsed_line line.End = End
 
 -- a field of a stack or a memory
-abbrev pub field_in : Bank → ℕ → Field
-field_in bank.Data word = Data word
-field_in bank.Return word = Return word
-field_in bank.Ram cell = Ram cell
-field_in bank.Rom cell = Rom cell
+abbrev pub field_of_bank : Bank → ℕ → Field
+field_of_bank bank.Data word = Data word
+field_of_bank bank.Return word = Return word
+field_of_bank bank.Ram cell = Ram cell
+field_of_bank bank.Rom cell = Rom cell
 
 -- ---- A parser, as contracts see it
 
 -- a stage, as contracts see it
-abbrev pub stage_of : Expects → ImageReadStage
-stage_of expects.Header = Header
-stage_of expects.Open = Open
-stage_of (expects.Block node) = stage.Block node.number
-stage_of expects.Ended = Ended
+abbrev pub stage_of_parser : Expects → ImageReadStage
+stage_of_parser expects.Header = Header
+stage_of_parser expects.Open = Open
+stage_of_parser (expects.Block node) = stage.Block node.number
+stage_of_parser expects.Ended = Ended
 
 -- a parser, as contracts see it
-abbrev pub progress_of : Parser → ImageReadProgress
-progress_of parser = record {
+abbrev pub progress_of_parser : Parser → ImageReadProgress
+progress_of_parser parser = record {
   format = parser.format;
-  stage = stage_of parser.stage;
+  stage = stage_of_parser parser.stage;
   blocks = parser.blocks;
   given = parser.given;
   held = parser.held;
@@ -81,33 +81,33 @@ IsAfterHeader _ = ⊥
 -- ---- the text of fields and blocks as it is put together
 
 -- the text of field lines
-abbrev pub fields_text : List (Field × List ℕ) → Text
-fields_text lines = lines_text (map (λ line. field_text line.0 line.1) lines)
+abbrev pub field_lines_text : List (Field × List ℕ) → Text
+field_lines_text lines = lines_text (map (λ line. field_text line.0 line.1) lines)
 
 -- the text of blocks
-abbrev pub blocks_text : List Block → Text
-blocks_text blocks = lines_text (map line_text (flat_map block_forms blocks))
+abbrev pub blocks_text : List NodeBlock → Text
+blocks_text blocks = lines_text (map text_of_line_form (flat_map line_forms_of_block blocks))
 
 -- the fields whose lines give words, and those whose lines give one digit
-abbrev pub HasDigit : Field → Type 0
-HasDigit Carry = Unit {0}
-HasDigit Slot = Unit {0}
-HasDigit Stop = Unit {0}
-HasDigit _ = ⊥
+abbrev pub IsFieldOfOneDigit : Field → Type 0
+IsFieldOfOneDigit Carry = Unit {0}
+IsFieldOfOneDigit Slot = Unit {0}
+IsFieldOfOneDigit Stop = Unit {0}
+IsFieldOfOneDigit _ = ⊥
 
-abbrev pub HasWords : Field → Type 0
-HasWords Carry = ⊥
-HasWords Slot = ⊥
-HasWords Wait = ⊥
-HasWords Stop = ⊥
-HasWords _ = Unit {0}
+abbrev pub IsWordField : Field → Type 0
+IsWordField Carry = ⊥
+IsWordField Slot = ⊥
+IsWordField Wait = ⊥
+IsWordField Stop = ⊥
+IsWordField _ = Unit {0}
 
 -- the words of a stack or a memory
-abbrev pub words_in : Bank → NodeRecord → List ℕ
-words_in bank.Data node = node.d
-words_in bank.Return node = node.r
-words_in bank.Ram node = node.ram
-words_in bank.Rom node = node.rom
+abbrev pub words_of_bank : Bank → NodeRecord → List ℕ
+words_of_bank bank.Data node = node.d
+words_of_bank bank.Return node = node.r
+words_of_bank bank.Ram node = node.ram
+words_of_bank bank.Rom node = node.rom
 
 -- how many words a stack or a memory has
 abbrev pub bank_size : Bank → ℕ

@@ -1,28 +1,28 @@
 //! Why a text is no image.
 
 ghost use Rattle.std.specs.Prelude.{◌≡◌};
-ghost use Rattle.ga_image.specs.FirstFault.{cause_number, cause_word};
+ghost use Rattle.ga_image.specs.FirstFault.{image_cause_number, image_cause_word};
 
 use thiserror::Error;
 
 /// What is wrong with a line, or with the text as a whole.
 #[derive(Clone, Copy, PartialEq, Eq, Debug, Error)]
-pub enum ImageCause {
+pub enum ImageFaultCause {
     /// The first line is not the header.
     #[error("the first line is not the header")]
-    Header,
+    WrongHeader,
     /// The line has none of the forms, or is not allowed here.
     #[error("the line has none of the forms, or may not stand here")]
-    Line,
+    InvalidLine,
     /// No node has this row and column.
     #[error("no node has this row and column")]
-    Node,
+    UnknownNode,
     /// A number is too great for its place.
     #[error("a number is too great for its place")]
-    Word,
+    WordOutOfRange,
     /// The node, field or cell was given before.
     #[error("the node, field or cell was given before")]
-    Repeated,
+    RepeatedNodeOrField,
     /// A memory cell is past the last one.
     #[error("a memory cell is past the last one")]
     Place,
@@ -31,7 +31,7 @@ pub enum ImageCause {
     Truncated,
     /// The line has more than 200 bytes.
     #[error("the line has more than 200 bytes")]
-    Long,
+    LineTooLong,
     /// Out of memory.
     #[error("out of memory")]
     Memory,
@@ -40,40 +40,40 @@ pub enum ImageCause {
     State,
 }
 
-impl ImageCause {
+impl ImageFaultCause {
     /// The number by which the cause is reported.
     pub fn number(self) -> u8
-        ensures { result ≡ cause_number self }
+        ensures { result ≡ image_cause_number self }
     {
         match self {
-            ImageCause::Header => 11,
-            ImageCause::Line => 12,
-            ImageCause::Node => 13,
-            ImageCause::Word => 14,
-            ImageCause::Repeated => 15,
-            ImageCause::Place => 16,
-            ImageCause::Truncated => 17,
-            ImageCause::Long => 18,
-            ImageCause::Memory => 19,
-            ImageCause::State => 20,
+            ImageFaultCause::WrongHeader => 11,
+            ImageFaultCause::InvalidLine => 12,
+            ImageFaultCause::UnknownNode => 13,
+            ImageFaultCause::WordOutOfRange => 14,
+            ImageFaultCause::RepeatedNodeOrField => 15,
+            ImageFaultCause::Place => 16,
+            ImageFaultCause::Truncated => 17,
+            ImageFaultCause::LineTooLong => 18,
+            ImageFaultCause::Memory => 19,
+            ImageFaultCause::State => 20,
         }
     }
 
     /// The word by which the cause is reported.
     pub fn word(self) -> &'static str
-        ensures { result.now ≡ cause_word self }
+        ensures { result.now ≡ image_cause_word self }
     {
         match self {
-            ImageCause::Header => "header",
-            ImageCause::Line => "line",
-            ImageCause::Node => "node",
-            ImageCause::Word => "word",
-            ImageCause::Repeated => "repeated",
-            ImageCause::Place => "place",
-            ImageCause::Truncated => "truncated",
-            ImageCause::Long => "long",
-            ImageCause::Memory => "memory",
-            ImageCause::State => "state",
+            ImageFaultCause::WrongHeader => "header",
+            ImageFaultCause::InvalidLine => "line",
+            ImageFaultCause::UnknownNode => "node",
+            ImageFaultCause::WordOutOfRange => "word",
+            ImageFaultCause::RepeatedNodeOrField => "repeated",
+            ImageFaultCause::Place => "place",
+            ImageFaultCause::Truncated => "truncated",
+            ImageFaultCause::LineTooLong => "long",
+            ImageFaultCause::Memory => "memory",
+            ImageFaultCause::State => "state",
         }
     }
 }
@@ -86,5 +86,5 @@ pub struct ImageFault {
     /// and 0 where memory was refused.
     pub line: u32,
     /// What is wrong.
-    pub cause: ImageCause,
+    pub cause: ImageFaultCause,
 }

@@ -2,10 +2,10 @@
 
 ghost use Rattle.std.specs.Prelude.{◌≡◌, ◌<◌, ◌≤◌, length};
 ghost use Rattle.ga_image.specs.Spelling.{field_name};
-ghost use Rattle.ga_image.specs.inner.{field_in, HasCell};
-ghost use Rattle.ga_image.specs.Fields.{format_has_field, field_place, field_number, next_field, exceeds_field, has_too_great_word, load_run_state, with_run_state_code, is_inconsistent_state};
+ghost use Rattle.ga_image.specs.inner.{field_of_bank, IsFieldWithinBank};
+ghost use Rattle.ga_image.specs.Fields.{format_has_field, field_place, field_number, next_field, row_exceeds_bank, has_too_great_word, run_state_at_load, run_state_with_field_word, is_inconsistent_run_state};
 
-use ga_node::Place;
+use ga_node::NodePlace;
 
 /// How many registers, words of the stacks and cells of a node an image gives: nine registers, ten and nine words, and two
 /// memories of 64 cells.
@@ -50,7 +50,7 @@ pub(crate) enum Bank {
 impl Bank {
     /// The field of a word of the stack or the memory.
     pub(crate) fn field(self, place: u8) -> Field
-        ensures { result ≡ field_in self place }
+        ensures { result ≡ field_of_bank self place }
     {
         match self {
             Bank::Data => Field::Data(place),
@@ -78,26 +78,26 @@ impl Format {
 
 impl Field {
     /// The place of a node at load that the field names.
-    pub(crate) fn place(self) -> Place
+    pub(crate) fn place(self) -> NodePlace
         ensures { result ≡ field_place self }
     {
         match self {
-            Field::A => Place::A,
-            Field::B => Place::B,
-            Field::P => Place::P,
-            Field::I => Place::I,
-            Field::Io => Place::Io,
-            Field::Carry => Place::Carry,
-            Field::Slot => Place::Slot,
-            Field::Wait => Place::Wait,
-            Field::Stop => Place::Stop,
-            Field::Data(0) => Place::T,
-            Field::Data(1) => Place::S,
-            Field::Data(word) => Place::DataCell(word - 2),
-            Field::Return(0) => Place::R,
-            Field::Return(word) => Place::ReturnCell(word - 1),
-            Field::Ram(cell) => Place::Ram(cell),
-            Field::Rom(cell) => Place::Rom(cell),
+            Field::A => NodePlace::A,
+            Field::B => NodePlace::B,
+            Field::P => NodePlace::P,
+            Field::I => NodePlace::I,
+            Field::Io => NodePlace::Io,
+            Field::Carry => NodePlace::Carry,
+            Field::Slot => NodePlace::Slot,
+            Field::Wait => NodePlace::Wait,
+            Field::Stop => NodePlace::Stop,
+            Field::Data(0) => NodePlace::T,
+            Field::Data(1) => NodePlace::S,
+            Field::Data(word) => NodePlace::DataCell(word - 2),
+            Field::Return(0) => NodePlace::R,
+            Field::Return(word) => NodePlace::ReturnCell(word - 1),
+            Field::Ram(cell) => NodePlace::Ram(cell),
+            Field::Rom(cell) => NodePlace::Rom(cell),
         }
     }
 
@@ -124,7 +124,7 @@ impl Field {
 
     /// The number of the field among those of a node.
     pub(crate) fn number(self) -> usize
-        requires { HasCell self }
+        requires { IsFieldWithinBank self }
         ensures value { result ≡ field_number self }
         ensures in_range { result < FIELDS }
     {
@@ -147,7 +147,7 @@ impl Field {
 
     /// The field of the next word of the line.
     pub(crate) fn next(self) -> Field
-        requires { HasCell self }
+        requires { IsFieldWithinBank self }
         ensures { result ≡ next_field self }
     {
         match self {
@@ -160,9 +160,9 @@ impl Field {
     }
 
     /// Whether `count` words exceed the last word of the stack or the last cell of the memory.
-    pub(crate) fn exceeds_field(self, count: usize) -> bool
+    pub(crate) fn row_exceeds_bank(self, count: usize) -> bool
         requires { count ≤ 16 }
-        ensures { result ≡ exceeds_field self count }
+        ensures { result ≡ row_exceeds_bank self count }
     {
         match self {
             Field::Data(word) => word as usize + count > 10,
@@ -176,7 +176,7 @@ impl Field {
     pub(crate) fn is_exceeded_by(self, words: &[u32]) -> bool
         ensures { result ≡ has_too_great_word self words.now }
     {
-        let greatest = self.place().greatest();
+        let greatest = self.place().greatest_value();
         words.iter().any(|word| *word > greatest)
     }
 }
@@ -195,7 +195,7 @@ pub(crate) struct RunState {
 impl RunState {
     /// A node at load neither waits nor is stopped, and a fetch is due.
     pub(crate) fn runs() -> RunState
-        ensures { result ≡ load_run_state }
+        ensures { result ≡ run_state_at_load }
     {
         RunState {
             wait: 0,
@@ -206,7 +206,7 @@ impl RunState {
 
     /// The wait, stop and slot with a word for a field.
     pub(crate) fn with(self, field: Field, word: u32) -> RunState
-        ensures { result ≡ with_run_state_code self field word }
+        ensures { result ≡ run_state_with_field_word self field word }
     {
         match field {
             Field::Wait => RunState { wait: word, ..self },
@@ -218,8 +218,8 @@ impl RunState {
 
     /// Whether the block's wait, stop and slot are inconsistent: its node both waits and is stopped, or waits to fetch where no
     /// fetch is due, or for another word where a fetch is due.
-    pub(crate) fn is_inconsistent_state(self) -> bool
-        ensures { result ≡ is_inconsistent_state self }
+    pub(crate) fn is_inconsistent_run_state(self) -> bool
+        ensures { result ≡ is_inconsistent_run_state self }
     {
         let is_fetch_due = self.slot == 4;
         let waits_to_fetch = self.wait < 32;

@@ -2,12 +2,12 @@
 
 ghost use Rattle.std.specs.Prelude.{◌≡◌, ◌<◌, ◌≤◌, ◌++◌, [], ◌∷◌, ◌==◌, if◌then◌else◌, OnOk};
 ghost use Rattle.std.specs.List.{list_all};
-ghost use Rattle.ga_grid.specs.Grid.{yxx_of};
+ghost use Rattle.ga_grid.specs.Grid.{decimal_name_of_node};
 ghost use Rattle.ga_node.specs.State.{IsWaitCode};
-ghost use Rattle.ga_text.specs.Digits.{decimal3_of, hex2_of, words_text};
+ghost use Rattle.ga_text.specs.Digits.{three_decimal_digits, two_hex_digits_text, spaced_words_text};
 ghost use Rattle.ga_image.specs.Spelling.{side_set_text, wait_text};
 ghost use Rattle.ga_image.specs.Printing.{field_text, line_unless_default, word_line_unless_default, AreEighteenBitWords};
-ghost use Rattle.ga_image.specs.inner.{fields_text, HasWords, HasDigit};
+ghost use Rattle.ga_image.specs.inner.{field_lines_text, IsWordField, IsFieldOfOneDigit};
 
 use super::field::Field;
 use ga_grid::NodeId;
@@ -17,32 +17,32 @@ use std::alloc::AllocError;
 /// Adds words, each as six digits after a space.
 fn push_words(text: &mut Vec<u8>, words: &[u32]) -> Result<(), AllocError>
     requires { AreEighteenBitWords words.now }
-    ensures { OnOk result (text.new.items ≡ text.old.items ++ words_text words.now) }
+    ensures { OnOk result (text.new.items ≡ text.old.items ++ spaced_words_text words.now) }
 {
     for word in words {
         text.extend_from_slice(b" ")?;
-        text.extend_from_slice(&Word18::from_low_bits(*word).hex6())?;
+        text.extend_from_slice(&Word18::from_low_bits(*word).to_hex_digits())?;
     }
     Ok(())
 }
 
 /// Adds the number of a cell in two digits.
 fn push_cell(text: &mut Vec<u8>, cell: u8) -> Result<(), AllocError>
-    ensures { OnOk result (text.new.items ≡ text.old.items ++ hex2_of cell) }
+    ensures { OnOk result (text.new.items ≡ text.old.items ++ two_hex_digits_text cell) }
 {
-    let [_, _, _, _, high, low] = Word18::from_low_bits(u32::from(cell)).hex6();
+    let [_, _, _, _, high, low] = Word18::from_low_bits(u32::from(cell)).to_hex_digits();
     text.extend_from_slice(&[high, low])
 }
 
 /// Adds the name of a node, its row and its column in three digits.
 pub(crate) fn push_node(text: &mut Vec<u8>, node: NodeId) -> Result<(), AllocError>
-    ensures { OnOk result (text.new.items ≡ text.old.items ++ decimal3_of (yxx_of node.number)) }
+    ensures { OnOk result (text.new.items ≡ text.old.items ++ three_decimal_digits (decimal_name_of_node node.number)) }
 {
-    let yxx = node.yxx();
+    let decimal_name = node.decimal_name();
     text.extend_from_slice(&[
-        b'0' + (yxx / 100) as u8,
-        b'0' + (yxx / 10 % 10) as u8,
-        b'0' + (yxx % 10) as u8,
+        b'0' + (decimal_name / 100) as u8,
+        b'0' + (decimal_name / 10 % 10) as u8,
+        b'0' + (decimal_name % 10) as u8,
     ])
 }
 
@@ -84,7 +84,7 @@ fn push_wait(text: &mut Vec<u8>, code: u32) -> Result<(), AllocError>
 
 /// Adds the line of words for a field.
 fn push_line(text: &mut Vec<u8>, field: Field, words: &[u32]) -> Result<(), AllocError>
-    requires field { HasWords field }
+    requires field { IsWordField field }
     requires words { AreEighteenBitWords words.now }
     ensures { OnOk result (text.new.items ≡ text.old.items ++ (field_text field words.now ++ 10 ∷ [])) }
 {
@@ -111,9 +111,9 @@ pub(crate) fn push_words_unless(
     field: Field,
     words: &[u32],
 ) -> Result<(), AllocError>
-    requires field { HasWords field }
+    requires field { IsWordField field }
     requires words { AreEighteenBitWords words.now }
-    ensures { OnOk result (text.new.items ≡ text.old.items ++ fields_text (line_unless_default at_load field words.now)) }
+    ensures { OnOk result (text.new.items ≡ text.old.items ++ field_lines_text (line_unless_default at_load field words.now)) }
 {
     if are_at_load(words, at_load) {
         Ok(())
@@ -130,8 +130,8 @@ pub(crate) fn push_digit_unless(
     digit: u32,
 ) -> Result<(), AllocError>
     requires digit { digit < 10 }
-    requires field { HasDigit field }
-    ensures { OnOk result (text.new.items ≡ text.old.items ++ fields_text (word_line_unless_default at_load field digit)) }
+    requires field { IsFieldOfOneDigit field }
+    ensures { OnOk result (text.new.items ≡ text.old.items ++ field_lines_text (word_line_unless_default at_load field digit)) }
 {
     if digit == at_load {
         return Ok(());
@@ -143,7 +143,7 @@ pub(crate) fn push_digit_unless(
 /// Adds the line of what a node waits for, given by its number, unless it waits for nothing.
 pub(crate) fn push_wait_unless(text: &mut Vec<u8>, code: u32) -> Result<(), AllocError>
     requires { IsWaitCode code }
-    ensures { OnOk result (text.new.items ≡ text.old.items ++ fields_text (word_line_unless_default 0 Field.Wait code)) }
+    ensures { OnOk result (text.new.items ≡ text.old.items ++ field_lines_text (word_line_unless_default 0 Field.Wait code)) }
 {
     if code == 0 {
         return Ok(());

@@ -2,14 +2,14 @@
 
 ghost use Rattle.std.specs.Prelude.{◌≡◌, ◌++◌, IfOk, OnOk, option_map, None};
 ghost use Rattle.std.specs.List.{list_any};
-ghost use Rattle.ga_text.specs.Lines.{lines_of};
+ghost use Rattle.ga_text.specs.Lines.{lines_of_text};
 ghost use Rattle.ga_image.specs.FirstFault.{format_of_first_line};
-ghost use Rattle.ga_image.specs.inner.{form_of};
-ghost use Rattle.ga_image.specs.Given.{ram_cell_of_place, rom_cell_of_place, is_register_a, is_register_b, is_register_p, is_cell_in_row, is_place_in_range, range_gives_word, line_ranges, block_node, given_ranges, format_gives_all_words, image_ranges, ranges_of_given_words};
+ghost use Rattle.ga_image.specs.inner.{form_of_parsed_line};
+ghost use Rattle.ga_image.specs.Given.{ram_cell_of_place, rom_cell_of_place, is_register_a, is_register_b, is_register_p, is_cell_in_row, is_place_in_row, range_gives_word, given_ranges_of_line, node_of_open_block, ranges_given_by_lines, format_gives_all_words, given_ranges_of_image, ranges_of_given_words};
 
 use super::line::Line;
 use ga_grid::NodeId;
-use ga_node::Place;
+use ga_node::NodePlace;
 use ga_text::first_line;
 use std::alloc::{AllocError, Global};
 
@@ -19,7 +19,7 @@ pub struct GivenRange {
     /// The node.
     pub node: NodeId,
     /// The first place.
-    pub first: Place,
+    pub first: NodePlace,
     /// The number of words.
     pub count: usize,
 }
@@ -38,7 +38,7 @@ impl GivenWords {
     ghost use Rattle.ga_image.specs.Given.{is_word_given};
 
     /// Whether the word of a place of a node is given. Only A, B, P and memory are given one by one.
-    pub fn has(&self, node: NodeId, place: Place) -> bool
+    pub fn gives_word(&self, node: NodeId, place: NodePlace) -> bool
         ensures { result ≡ is_word_given self.now node place }
     {
         match self {
@@ -49,7 +49,7 @@ impl GivenWords {
 }
 
 /// Whether one of these rows has the word of a place of a node.
-fn has_range(ranges: &[GivenRange], node: NodeId, place: Place) -> bool
+fn has_range(ranges: &[GivenRange], node: NodeId, place: NodePlace) -> bool
     ensures { result ≡ list_any (range_gives_word node place) ranges.now }
 {
     ranges
@@ -58,69 +58,69 @@ fn has_range(ranges: &[GivenRange], node: NodeId, place: Place) -> bool
 }
 
 /// Whether a row has the word of a place of a node.
-fn range_gives_word(range: GivenRange, node: NodeId, place: Place) -> bool
+fn range_gives_word(range: GivenRange, node: NodeId, place: NodePlace) -> bool
     ensures { result ≡ range_gives_word node place range }
 {
-    range.node == node && is_place_in_range(range.first, range.count, place)
+    range.node == node && is_place_in_row(range.first, range.count, place)
 }
 
 /// Whether a place is the register that is given, or one of the cells from the first on.
-fn is_place_in_range(first: Place, count: usize, place: Place) -> bool
-    ensures { result ≡ is_place_in_range first count place }
+fn is_place_in_row(first: NodePlace, count: usize, place: NodePlace) -> bool
+    ensures { result ≡ is_place_in_row first count place }
 {
     match first {
-        Place::A => is_register_a(place),
-        Place::B => is_register_b(place),
-        Place::P => is_register_p(place),
-        Place::Ram(first) => is_cell_in_row(first, count, ram_cell_of_place(place)),
-        Place::Rom(first) => is_cell_in_row(first, count, rom_cell_of_place(place)),
+        NodePlace::A => is_register_a(place),
+        NodePlace::B => is_register_b(place),
+        NodePlace::P => is_register_p(place),
+        NodePlace::Ram(first) => is_cell_in_row(first, count, ram_cell_of_place(place)),
+        NodePlace::Rom(first) => is_cell_in_row(first, count, rom_cell_of_place(place)),
         _ => false,
     }
 }
 
-fn is_register_a(place: Place) -> bool
+fn is_register_a(place: NodePlace) -> bool
     ensures { result ≡ is_register_a place }
 {
     match place {
-        Place::A => true,
+        NodePlace::A => true,
         _ => false,
     }
 }
 
-fn is_register_b(place: Place) -> bool
+fn is_register_b(place: NodePlace) -> bool
     ensures { result ≡ is_register_b place }
 {
     match place {
-        Place::B => true,
+        NodePlace::B => true,
         _ => false,
     }
 }
 
-fn is_register_p(place: Place) -> bool
+fn is_register_p(place: NodePlace) -> bool
     ensures { result ≡ is_register_p place }
 {
     match place {
-        Place::P => true,
+        NodePlace::P => true,
         _ => false,
     }
 }
 
 /// The cell of RAM that a place is.
-fn ram_cell_of_place(place: Place) -> Option<u8>
+fn ram_cell_of_place(place: NodePlace) -> Option<u8>
     ensures { result ≡ ram_cell_of_place place }
 {
     match place {
-        Place::Ram(cell) => Some(cell),
+        NodePlace::Ram(cell) => Some(cell),
         _ => None,
     }
 }
 
 /// The cell of ROM that a place is.
-fn rom_cell_of_place(place: Place) -> Option<u8>
+fn rom_cell_of_place(place: NodePlace) -> Option<u8>
     ensures { result ≡ rom_cell_of_place place }
 {
     match place {
-        Place::Rom(cell) => Some(cell),
+        NodePlace::Rom(cell) => Some(cell),
         _ => None,
     }
 }
@@ -140,17 +140,17 @@ fn is_cell_in_row(first: u8, count: usize, cell: Option<u8>) -> bool
 /// # Errors
 /// Out of memory.
 pub fn given_words(alloc: Global, text: &[u8]) -> Result<GivenWords, AllocError>
-    ensures { IfOk result (λ given. ranges_of_given_words given ≡ image_ranges (lines_of text.now)) }
+    ensures { IfOk result (λ given. ranges_of_given_words given ≡ given_ranges_of_image (lines_of_text text.now)) }
 {
     if format_gives_all_words(text) {
         return Ok(GivenWords::All);
     }
-    Ok(GivenWords::Ranges(given_ranges(alloc, text)?))
+    Ok(GivenWords::Ranges(ranges_given_by_lines(alloc, text)?))
 }
 
 /// Whether the first line of a text is not the header of format 1.
 fn format_gives_all_words(text: &[u8]) -> bool
-    ensures { result ≡ format_gives_all_words (format_of_first_line (lines_of text.now)) }
+    ensures { result ≡ format_gives_all_words (format_of_first_line (lines_of_text text.now)) }
 {
     if text.is_empty() {
         return false;
@@ -160,8 +160,8 @@ fn format_gives_all_words(text: &[u8]) -> bool
 }
 
 /// The words that the lines of a text give.
-fn given_ranges(alloc: Global, text: &[u8]) -> Result<Vec<GivenRange>, AllocError>
-    ensures { IfOk result (λ ranges. ranges.items ≡ given_ranges None (lines_of text.now)) }
+fn ranges_given_by_lines(alloc: Global, text: &[u8]) -> Result<Vec<GivenRange>, AllocError>
+    ensures { IfOk result (λ ranges. ranges.items ≡ ranges_given_by_lines None (lines_of_text text.now)) }
 {
     let mut ranges = Vec::new(alloc);
     let mut node = None;
@@ -170,7 +170,7 @@ fn given_ranges(alloc: Global, text: &[u8]) -> Result<Vec<GivenRange>, AllocErro
         let (line, after) = first_line(rest);
         let line = Line::parse(line);
         add_line(&mut ranges, node, &line)?;
-        node = block_node(node, &line);
+        node = node_of_open_block(node, &line);
         rest = after;
     }
     Ok(ranges)
@@ -182,7 +182,7 @@ fn add_line(
     node: Option<NodeId>,
     line: &Option<Line>,
 ) -> Result<(), AllocError>
-    ensures { OnOk result (ranges.new.items ≡ ranges.old.items ++ line_ranges node (option_map form_of line.now)) }
+    ensures { OnOk result (ranges.new.items ≡ ranges.old.items ++ given_ranges_of_line node (option_map form_of_parsed_line line.now)) }
 {
     let Some(node) = node else {
         return Ok(());
@@ -198,11 +198,11 @@ fn add_line(
 }
 
 /// The node whose block continues after a line.
-fn block_node(node: Option<NodeId>, line: &Option<Line>) -> Option<NodeId>
-    ensures { result ≡ block_node node (option_map form_of line.now) }
+fn node_of_open_block(node: Option<NodeId>, line: &Option<Line>) -> Option<NodeId>
+    ensures { result ≡ node_of_open_block node (option_map form_of_parsed_line line.now) }
 {
     match line {
-        Some(Line::Node(yxx)) => NodeId::from_yxx(*yxx),
+        Some(Line::Node(decimal_name)) => NodeId::from_decimal_name(*decimal_name),
         _ => node,
     }
 }

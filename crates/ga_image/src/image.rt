@@ -3,12 +3,12 @@
 ghost use Rattle.std.specs.Prelude.{◌≡◌, ◌⊎◌, List, IfOk, IfErr};
 ghost use Rattle.ga_node.specs.Record.{NodeState};
 ghost use Rattle.ga_grid.specs.Grid.{default_chip};
-ghost use Rattle.ga_image.specs.FirstFault.{IsFirstFault, memory_fault};
+ghost use Rattle.ga_image.specs.FirstFault.{IsFirstImageFault, out_of_memory_fault};
 ghost use Rattle.ga_image.specs.Grammar.{IsImage};
-ghost use Rattle.ga_text.specs.Lines.{lines_of};
-ghost use Rattle.ga_image.specs.Reading.{initial_progress, result_of_lines, IsImageReadResult};
+ghost use Rattle.ga_text.specs.Lines.{lines_of_text};
+ghost use Rattle.ga_image.specs.Reading.{initial_read_progress, read_result_of_lines, IsReadResultUnlessOutOfMemory};
 
-use super::fault::{ImageCause, ImageFault};
+use super::fault::{ImageFault, ImageFaultCause};
 use super::parser::{ImageReadStage, Parser};
 use ga_grid::Chip;
 use ga_text::first_line;
@@ -20,19 +20,19 @@ use std::alloc::Global;
 /// `Memory`, at line 0, where memory was refused; else the first fault of the text.
 pub fn parse(alloc: Global, text: &[u8]) -> Result<Chip, ImageFault>
     // What is accepted is an image of that chip.
-    ensures found { IfOk result (λ chip. IsImage (lines_of text.now) chip) }
+    ensures found { IfOk result (λ chip. IsImage (lines_of_text text.now) chip) }
 
     // Each image is accepted with its chip, unless an allocation fails.
-    ensures only { (chip : List NodeState) → IsImage (lines_of text.now) chip → IsImageReadResult result (Ok chip) }
+    ensures only { (chip : List NodeState) → IsImage (lines_of_text text.now) chip → IsReadResultUnlessOutOfMemory result (Ok chip) }
 
     // A text that is no image is refused with the first fault of its lines, unless an allocation fails.
-    ensures refused { IfErr result (λ fault. (fault ≡ memory_fault) ⊎ IsFirstFault (lines_of text.now) fault) }
+    ensures refused { IfErr result (λ fault. (fault ≡ out_of_memory_fault) ⊎ IsFirstImageFault (lines_of_text text.now) fault) }
 {
     match Chip::new(alloc) {
         Ok(chip) => read(chip, text),
         Err(_) => Err(ImageFault {
             line: 0,
-            cause: ImageCause::Memory,
+            cause: ImageFaultCause::Memory,
         }),
     }
 }
@@ -40,7 +40,7 @@ pub fn parse(alloc: Global, text: &[u8]) -> Result<Chip, ImageFault>
 /// Reads a text into a chip at load.
 fn read(chip: Chip, text: &[u8]) -> Result<Chip, ImageFault>
     requires { chip ≡ default_chip }
-    ensures { result ≡ result_of_lines initial_progress 1 (lines_of text.now) }
+    ensures { result ≡ read_result_of_lines initial_read_progress 1 (lines_of_text text.now) }
 {
     let mut parser = Parser::new(chip);
     let mut rest = text;
@@ -57,7 +57,7 @@ fn read(chip: Chip, text: &[u8]) -> Result<Chip, ImageFault>
         ImageReadStage::Ended => Ok(parser.chip),
         _ => Err(ImageFault {
             line,
-            cause: ImageCause::Truncated,
+            cause: ImageFaultCause::Truncated,
         }),
     }
 }

@@ -12,8 +12,8 @@ mod line;
 mod parser;
 mod printing;
 
-pub use fault::{ImageCause, ImageFault};
+pub use fault::{ImageFault, ImageFaultCause};
 pub use given::{GivenRange, GivenWords, given_words};
 pub use image::parse;
-pub use parser::LINE_LIMIT;
+pub use parser::MAX_IMAGE_LINE_BYTES;
 pub use printing::print;

@@ -1,13 +1,13 @@
 //! The forms of a line.
 
 ghost use Rattle.std.specs.Prelude.{◌≡◌, ◌≤◌, [], ◌∷◌};
-ghost use Rattle.ga_image.specs.Spelling.{Words, words_in_row, word_form, cells_form, stack_form, digit_form, side_set_wait_form, side_write_wait_form, wait_form, node_form, stack_memory_or_node_form, state_form, line_form};
+ghost use Rattle.ga_image.specs.Spelling.{Words, parse_row_words, word_line_form, cells_line_form, stack_line_form, digit_line_form, side_set_wait_form, side_write_wait_form, node_wait_line_form, node_line_form, stack_memory_or_node_form, state_line_form, line_form};
 ghost use Rattle.std.specs.Option.{option_map};
-ghost use Rattle.ga_image.specs.inner.{form_of, field_in};
+ghost use Rattle.ga_image.specs.inner.{form_of_parsed_line, field_of_bank};
 
 use super::field::{Bank, Field};
 use arrayvec::ArrayVec;
-use ga_grid::parse_node_name;
+use ga_grid::parse_decimal_name;
 use ga_ports::parse_side_set;
 use ga_text::parse_hex_byte;
 use ga_word::Word18;
@@ -24,7 +24,7 @@ pub(crate) enum Line {
 
 /// Reads 1 to 16 numbers of six digits, each after one space.
 fn read_words(text: &[u8]) -> Option<ArrayVec<u32, 16>>
-    ensures { option_map (λ found. found.items) result ≡ words_in_row text.now }
+    ensures { option_map (λ found. found.items) result ≡ parse_row_words text.now }
 {
     let mut words = ArrayVec::new();
     let mut rest = text;
@@ -34,24 +34,24 @@ fn read_words(text: &[u8]) -> Option<ArrayVec<u32, 16>>
         }
         let (first, after) = rest.split_at(7);
         let digits = first.strip_prefix(b" ")?;
-        words.push(Word18::parse_hex6(digits)?);
+        words.push(Word18::parse_six_hex_digits(digits)?);
         rest = after;
     }
     if words.is_empty() { None } else { Some(words) }
 }
 
-#[tactic(auto, unfolding(crate::specs::Spelling::word_form))]
+#[tactic(auto, unfolding(crate::specs::Spelling::word_line_form))]
 fn word_line(field: Field, text: &[u8]) -> Option<Line>
-    ensures { option_map form_of result ≡ word_form field text.now }
+    ensures { option_map form_of_parsed_line result ≡ word_line_form field text.now }
 {
     let mut words = ArrayVec::new();
-    words.push(Word18::parse_hex6(text)?);
+    words.push(Word18::parse_six_hex_digits(text)?);
     Some(Line::Words(field, words))
 }
 
-#[tactic(auto, unfolding(crate::specs::Spelling::cells_form))]
+#[tactic(auto, unfolding(crate::specs::Spelling::cells_line_form))]
 fn cells_line(bank: Bank, text: &[u8]) -> Option<Line>
-    ensures { option_map form_of result ≡ cells_form (field_in bank) text.now }
+    ensures { option_map form_of_parsed_line result ≡ cells_line_form (field_of_bank bank) text.now }
 {
     if text.len() < 2 {
         return None;
@@ -62,9 +62,9 @@ fn cells_line(bank: Bank, text: &[u8]) -> Option<Line>
     Some(Line::Words(bank.field(cell), words))
 }
 
-#[tactic(auto, unfolding(crate::specs::Spelling::stack_form))]
+#[tactic(auto, unfolding(crate::specs::Spelling::stack_line_form))]
 fn stack_line(field: Field, count: usize, text: &[u8]) -> Option<Line>
-    ensures { option_map form_of result ≡ stack_form field count text.now }
+    ensures { option_map form_of_parsed_line result ≡ stack_line_form field count text.now }
 {
     let words = read_words(text)?;
     if words.len() == count {
@@ -75,18 +75,18 @@ fn stack_line(field: Field, count: usize, text: &[u8]) -> Option<Line>
 }
 
 fn one_word(field: Field, word: u32) -> Line
-    ensures { form_of result ≡ Words field (word ∷ []) }
+    ensures { form_of_parsed_line result ≡ Words field (word ∷ []) }
 {
     let mut words = ArrayVec::new();
     words.push(word);
     Line::Words(field, words)
 }
 
-#[tactic(auto, unfolding(crate::specs::Spelling::digit_form))]
+#[tactic(auto, unfolding(crate::specs::Spelling::digit_line_form))]
 fn digit_line(field: Field, least: u8, most: u8, text: &[u8]) -> Option<Line>
     requires least { least ≤ 9 }
     requires most { most ≤ 9 }
-    ensures { option_map form_of result ≡ digit_form field least most text.now }
+    ensures { option_map form_of_parsed_line result ≡ digit_line_form field least most text.now }
 {
     match text {
         [digit] => {
@@ -103,7 +103,7 @@ fn digit_line(field: Field, least: u8, most: u8, text: &[u8]) -> Option<Line>
 #[tactic(auto, unfolding(crate::specs::Spelling::side_set_wait_form))]
 fn set_line(kind: u32, text: &[u8]) -> Option<Line>
     requires { kind ≤ 48 }
-    ensures { option_map form_of result ≡ side_set_wait_form kind text.now }
+    ensures { option_map form_of_parsed_line result ≡ side_set_wait_form kind text.now }
 {
     let sides = parse_side_set(text)?;
     if sides == 0 {
@@ -115,7 +115,7 @@ fn set_line(kind: u32, text: &[u8]) -> Option<Line>
 
 #[tactic(auto, unfolding(crate::specs::Spelling::side_write_wait_form))]
 fn side_line(text: &[u8]) -> Option<Line>
-    ensures { option_map form_of result ≡ side_write_wait_form text.now }
+    ensures { option_map form_of_parsed_line result ≡ side_write_wait_form text.now }
 {
     let sides = parse_side_set(text)?;
     if sides == 8 || sides == 4 || sides == 2 || sides == 1 {
@@ -125,9 +125,9 @@ fn side_line(text: &[u8]) -> Option<Line>
     }
 }
 
-#[tactic(auto, unfolding(crate::specs::Spelling::wait_form))]
+#[tactic(auto, unfolding(crate::specs::Spelling::node_wait_line_form))]
 fn wait_line(text: &[u8]) -> Option<Line>
-    ensures { option_map form_of result ≡ wait_form text.now }
+    ensures { option_map form_of_parsed_line result ≡ node_wait_line_form text.now }
 {
     if let Some(rest) = text.strip_prefix(b"fetch ") {
         set_line(16, rest)
@@ -140,16 +140,16 @@ fn wait_line(text: &[u8]) -> Option<Line>
     }
 }
 
-#[tactic(auto, unfolding(crate::specs::Spelling::node_form))]
+#[tactic(auto, unfolding(crate::specs::Spelling::node_line_form))]
 fn node_line(text: &[u8]) -> Option<Line>
-    ensures { option_map form_of result ≡ node_form text.now }
+    ensures { option_map form_of_parsed_line result ≡ node_line_form text.now }
 {
-    Some(Line::Node(parse_node_name(text)?))
+    Some(Line::Node(parse_decimal_name(text)?))
 }
 
 #[tactic(auto, unfolding(crate::specs::Spelling::stack_memory_or_node_form))]
 fn wide_line(text: &[u8]) -> Option<Line>
-    ensures { option_map form_of result ≡ stack_memory_or_node_form text.now }
+    ensures { option_map form_of_parsed_line result ≡ stack_memory_or_node_form text.now }
 {
     if let Some(rest) = text.strip_prefix(b"d") {
         stack_line(Field::Data(0), 10, rest)
@@ -168,9 +168,9 @@ fn wide_line(text: &[u8]) -> Option<Line>
     }
 }
 
-#[tactic(auto, unfolding(crate::specs::Spelling::state_form))]
+#[tactic(auto, unfolding(crate::specs::Spelling::state_line_form))]
 fn state_line(text: &[u8]) -> Option<Line>
-    ensures { option_map form_of result ≡ state_form text.now }
+    ensures { option_map form_of_parsed_line result ≡ state_line_form text.now }
 {
     if let Some(rest) = text.strip_prefix(b"carry ") {
         digit_line(Field::Carry, 0, 1, rest)
@@ -189,7 +189,7 @@ impl Line {
     /// Reads a line, if it has one of the forms.
     #[tactic(auto, unfolding(crate::specs::Spelling::line_form))]
     pub(crate) fn parse(text: &[u8]) -> Option<Line>
-        ensures { option_map form_of result ≡ line_form text.now }
+        ensures { option_map form_of_parsed_line result ≡ line_form text.now }
     {
         if let Some(rest) = text.strip_prefix(b"a ") {
             word_line(Field::A, rest)

@@ -1,11 +1,11 @@
 //! The history of one node.
 
 ghost use Rattle.std.specs.Prelude.{◌≡◌, ◌+◌, ◌<◌, ◌≤◌, ◌^◌, length};
-ghost use Rattle.ga_journal.specs.inner.Stored.{own_part, act_in, looked_in, looked_after, passes_in, IsBelow, IsDropped};
+ghost use Rattle.ga_journal.specs.inner.Stored.{part_of_own_outcome, entry_role_of_part, newest_look_end_before, newest_look_end_after, count_passes_of_part, NamesPassBelow, IsPassOfPartDropped};
 
-use crate::entry::{Entry, EntryAct, Head, Part, Pass, Role, Taken};
+use crate::entry::{Entry, EntryRole, Head, Part, Pass, Role, Taken};
 use crate::fault::JournalFault;
-use ga_event::{OwnOutcome, apply_own, undo_node};
+use ga_event::{OwnEventKindWithLook, apply_own_event, restore_node_values};
 use ga_grid::{Chip, NodeId};
 use ga_node::{Node, OwnEventKind, Saved};
 use std::alloc::Global;
@@ -29,26 +29,26 @@ pub(crate) struct History {
 }
 
 impl Model for History {
-    ghost use Rattle.ga_journal.specs.inner.Histories.{Held};
+    ghost use Rattle.ga_journal.specs.inner.Histories.{HeldNodeHistory};
 
-    ghost Value = { Held };
+    ghost Value = { HeldNodeHistory };
 
-    ghost use Rattle.ga_journal.specs.inner.Stored.{held_by, IsHistory};
+    ghost use Rattle.ga_journal.specs.inner.Stored.{held_history_of_vecs, IsStoredNodeHistory};
 
-    ghost view = { λ h. held_by h.entries h.passes };
+    ghost view = { λ h. held_history_of_vecs h.entries h.passes };
 
-    ghost invariant = { λ h. IsHistory h.entries.items h.passes.items h.looked };
+    ghost invariant = { λ h. IsStoredNodeHistory h.entries.items h.passes.items h.looked };
 }
 
 /// A node's part in an event, with the pass at a place of the list.
 #[inline(always)]
-fn act_of(passes: &Vec<Pass>, part: Part, place: u32) -> EntryAct
-    requires { IsBelow part place (length passes.now.items) }
-    ensures { result ≡ act_in passes.now.items part place }
+fn act_of(passes: &Vec<Pass>, part: Part, place: u32) -> EntryRole
+    requires { NamesPassBelow part place (length passes.now.items) }
+    ensures { result ≡ entry_role_of_part passes.now.items part place }
 {
     match part {
-        Part::Own(kind) => EntryAct::Own(OwnOutcome { kind, look: false }),
-        Part::Look(kind) => EntryAct::Own(OwnOutcome { kind, look: true }),
+        Part::Own(kind) => EntryRole::Own(OwnEventKindWithLook { kind, look: false }),
+        Part::Look(kind) => EntryRole::Own(OwnEventKindWithLook { kind, look: true }),
         Part::Passed(role) => {
             let Pass {
                 partner,
@@ -58,13 +58,13 @@ fn act_of(passes: &Vec<Pass>, part: Part, place: u32) -> EntryAct
                 ..
             } = passes[place as usize];
             match role {
-                Role::Writer => EntryAct::Sent {
+                Role::Writer => EntryRole::SentWord {
                     to: partner,
                     side,
                     at,
                     word,
                 },
-                Role::Reader => EntryAct::Took {
+                Role::Reader => EntryRole::TookWord {
                     from: partner,
                     side,
                     at,
@@ -78,8 +78,8 @@ fn act_of(passes: &Vec<Pass>, part: Part, place: u32) -> EntryAct
 /// One past the position of the newest look before an entry, whose pass, if it is an end of one, is at a place of the list.
 #[inline(always)]
 fn looked_before(passes: &Vec<Pass>, part: Part, place: u32) -> u32
-    requires { IsBelow part place (length passes.now.items) }
-    ensures { result ≡ looked_in passes.now.items part place }
+    requires { NamesPassBelow part place (length passes.now.items) }
+    ensures { result ≡ newest_look_end_before passes.now.items part place }
 {
     match part {
         Part::Own(_) => place,
@@ -90,8 +90,8 @@ fn looked_before(passes: &Vec<Pass>, part: Part, place: u32) -> u32
 
 /// The part of a node in its own event.
 #[inline(always)]
-fn part_of(deed: OwnOutcome) -> Part
-    ensures { result ≡ own_part deed }
+fn part_of(deed: OwnEventKindWithLook) -> Part
+    ensures { result ≡ part_of_own_outcome deed }
 {
     if deed.look {
         Part::Look(deed.kind)
@@ -104,7 +104,7 @@ fn part_of(deed: OwnOutcome) -> Part
 #[inline(always)]
 fn looked_with(looked: u32, at: usize, part: Part) -> u32
     requires { at + 1 < 2 ^ 32 }
-    ensures { result ≡ looked_after looked at part }
+    ensures { result ≡ newest_look_end_after looked at part }
 {
     match part {
         Part::Own(_) => looked,
@@ -115,9 +115,9 @@ fn looked_with(looked: u32, at: usize, part: Part) -> u32
 
 /// Where a node's own event at this position is a look, it is the newest one from now on.
 #[inline(always)]
-fn note_look(looked: &mut u32, at: usize, deed: OwnOutcome)
+fn note_look(looked: &mut u32, at: usize, deed: OwnEventKindWithLook)
     requires { at + 1 < 2 ^ 32 }
-    ensures { looked.new ≡ looked_after looked.old at (own_part deed) }
+    ensures { looked.new ≡ newest_look_end_after looked.old at (part_of_own_outcome deed) }
 {
     if deed.look {
         *looked = at as u32 + 1;
@@ -127,8 +127,8 @@ fn note_look(looked: &mut u32, at: usize, deed: OwnOutcome)
 /// Takes the last pass out, where the part is an end of one.
 #[inline(always)]
 fn drop_pass(passes: &mut Vec<Pass>, part: Part)
-    requires { passes_in part ≤ length passes.old.items }
-    ensures { IsDropped part passes.old.items passes.new.items }
+    requires { count_passes_of_part part ≤ length passes.old.items }
+    ensures { IsPassOfPartDropped part passes.old.items passes.new.items }
 {
     match part {
         Part::Own(_) => {}
@@ -143,14 +143,14 @@ impl History {
     ghost use Rattle.std.specs.Prelude.{◌≡◌, ◌+◌, ◌<◌, ◌^◌, ◌++◌, ◌∷◌, [], length, IsTrue, OnOk, OnErr, IfErr, IfSome, IfNone, None, take, drop};
     ghost use Rattle.std.specs.Bool.{OnTrue, OnFalse};
     ghost use Rattle.ga_journal.specs.Walked.{node_before_entries, CanRestoreEntries};
-    ghost use Rattle.ga_node.specs.Record.{record_of};
-    ghost use Rattle.ga_node.specs.Table.{refusal};
+    ghost use Rattle.ga_node.specs.Record.{record_of_node};
+    ghost use Rattle.ga_node.specs.Table.{refusal_of_own_event};
     ghost use Rattle.ga_grid.specs.Chip.{node_at};
-    ghost use Rattle.ga_journal.specs.Histories.{past};
-    ghost use Rattle.ga_journal.specs.inner.Histories.{past_of, bound_of, IsPastNewest};
-    ghost use Rattle.ga_journal.specs.inner.Stored.{act_with};
-    ghost use Rattle.ga_journal.specs.inner.Ends.{TellsOf, IsMadeAlone, CanGoBack, IsGoneBack};
-    ghost use Rattle.ga_journal.specs.Looks.{HasLook, HasNoLook, IsNewestLook};
+    ghost use Rattle.ga_journal.specs.Histories.{new_entry_record};
+    ghost use Rattle.ga_journal.specs.inner.Histories.{entry_record_of_taken, stamp_bound_of_history, IsPastNewestLook};
+    ghost use Rattle.ga_journal.specs.inner.Stored.{entry_role_of_pass_end};
+    ghost use Rattle.ga_journal.specs.inner.Ends.{IsHeadOfEntryAt, IsOwnEventMadeInHistory, CanWriteBackLastEntry, IsLastEntryWrittenBack};
+    ghost use Rattle.ga_journal.specs.Looks.{HasLookEntry, HasNoLookEntry, IsNewestLookBeforeMark};
 
     /// A history without an entry.
     #[inline(always)]
@@ -175,9 +175,9 @@ impl History {
     /// The last entry's stamp, and the node that it hints at.
     #[tactic(auto, using(crate::proofs::Storing::none_bound, crate::proofs::Storing::last_bound))]
     #[inline(always)]
-    pub fn last(&self) -> Option<(u64, NodeId)>
-        ensures some { IfSome result (λ last. last.0 + 1 ≡ bound_of self.now.items) }
-        ensures none { IfNone result (bound_of self.now.items ≡ 0) }
+    pub fn last_entry_stamp(&self) -> Option<(u64, NodeId)>
+        ensures some { IfSome result (λ last. last.0 + 1 ≡ stamp_bound_of_history self.now.items) }
+        ensures none { IfNone result (stamp_bound_of_history self.now.items ≡ 0) }
     {
         match self.entries.last() {
             None => None,
@@ -187,9 +187,9 @@ impl History {
 
     /// The entry at a position, without its overwritten values.
     #[inline(always)]
-    pub fn head(&self, at: usize) -> Head
+    pub fn entry_without_old_values(&self, at: usize) -> Head
         requires { at < length self.now.items }
-        ensures { TellsOf self.now.items at result }
+        ensures { IsHeadOfEntryAt self.now.items at result }
     {
         let entry = &self.entries[at];
         Head {
@@ -202,8 +202,8 @@ impl History {
     /// Whether some entry is a look.
     #[inline(always)]
     pub fn has_looked(&self) -> bool
-        ensures yes { OnTrue result (HasLook self.now.items) }
-        ensures no { OnFalse result (HasNoLook self.now.items (length self.now.items)) }
+        ensures yes { OnTrue result (HasLookEntry self.now.items) }
+        ensures no { OnFalse result (HasNoLookEntry self.now.items (length self.now.items)) }
     {
         self.looked != 0
     }
@@ -211,7 +211,7 @@ impl History {
     /// One past the position of the newest look among the first entries, 0 where none is a look.
     fn looked_by(&self, mark: u32) -> u32
         requires { mark ≤ length self.now.items }
-        ensures { IsPastNewest self.now.items mark result }
+        ensures { IsPastNewestLook self.now.items mark result }
     {
         let at = mark as usize;
         if at == self.len() {
@@ -225,8 +225,8 @@ impl History {
     #[tactic(auto, using(crate::proofs::Looking::past_none, crate::proofs::Looking::past_some))]
     pub fn newest_look(&self, mark: u32) -> Option<u32>
         requires { mark ≤ length self.now.items }
-        ensures some { IfSome result (λ at. IsNewestLook self.now.items mark at) }
-        ensures none { IfNone result (HasNoLook self.now.items mark) }
+        ensures some { IfSome result (λ at. IsNewestLookBeforeMark self.now.items mark at) }
+        ensures none { IfNone result (HasNoLookEntry self.now.items mark) }
     {
         let looked = self.looked_by(mark);
         if looked == 0 { None } else { Some(looked - 1) }
@@ -234,7 +234,7 @@ impl History {
 
     /// Makes the growth for an own event.
     #[inline(always)]
-    pub fn reserve_own(&mut self) -> Result<(), JournalFault>
+    pub fn reserve_own_entry(&mut self) -> Result<(), JournalFault>
         ensures same { self.new.items ≡ self.old.items }
         ensures room { OnOk result (IsTrue self.new.room.entry) }
         ensures full { OnErr result (¬ IsTrue self.old.room.entry) }
@@ -267,7 +267,7 @@ impl History {
     }
 
     /// Makes the growths for an end of a pass.
-    pub fn reserve_pass(&mut self) -> Result<(), JournalFault>
+    pub fn reserve_pass_entry(&mut self) -> Result<(), JournalFault>
         ensures same { self.new.items ≡ self.old.items }
         ensures room { OnOk result (IsTrue self.new.room.entry) }
         ensures pass { OnOk result (IsTrue self.new.room.pass) }
@@ -282,10 +282,16 @@ impl History {
 
     /// Adds an own event.
     #[inline(always)]
-    pub fn push_own(&mut self, stamp: u64, deed: OwnOutcome, saved: Saved, before: NodeId)
+    pub fn push_own_entry(
+        &mut self,
+        stamp: u64,
+        deed: OwnEventKindWithLook,
+        saved: Saved,
+        before: NodeId,
+    )
         requires room { IsTrue self.old.room.entry }
         requires fits { length self.old.items + 1 < 2 ^ 32 }
-        ensures { self.new.items ≡ self.old.items ++ past stamp (EntryAct.Own deed) saved ∷ [] }
+        ensures { self.new.items ≡ self.old.items ++ new_entry_record stamp (EntryRole.Own deed) saved ∷ [] }
     {
         let place = self.looked;
         let part = part_of(deed);
@@ -300,11 +306,18 @@ impl History {
     }
 
     /// Adds an end of a pass, with the position of the newest look.
-    pub fn push_pass(&mut self, stamp: u64, role: Role, pass: Pass, saved: Saved, before: NodeId)
+    pub fn push_pass_entry(
+        &mut self,
+        stamp: u64,
+        role: Role,
+        pass: Pass,
+        saved: Saved,
+        before: NodeId,
+    )
         requires room { IsTrue self.old.room.entry }
         requires pass_room { IsTrue self.old.room.pass }
         requires fits { length self.old.items < 2 ^ 32 }
-        ensures { self.new.items ≡ self.old.items ++ past stamp (act_with role pass) saved ∷ [] }
+        ensures { self.new.items ≡ self.old.items ++ new_entry_record stamp (entry_role_of_pass_end role pass) saved ∷ [] }
     {
         let place = self.passes.as_slice().len() as u32;
         self.passes.push_reserved(Pass {
@@ -328,11 +341,11 @@ impl History {
         node: NodeId,
         stamp: u64,
         before: NodeId,
-    ) -> OwnOutcome
-        requires ready { refusal (record_of (node_at chip.old node.number)) ≡ None }
+    ) -> OwnEventKindWithLook
+        requires ready { refusal_of_own_event (record_of_node (node_at chip.old node.number)) ≡ None }
         requires room { IsTrue self.old.room.entry }
         requires fits { length self.old.items + 1 < 2 ^ 32 }
-        ensures { IsMadeAlone self.old.items chip.old node stamp result self.new.items chip.new }
+        ensures { IsOwnEventMadeInHistory self.old.items chip.old node stamp result self.new.items chip.new }
     {
         self.entries.push_reserved(Entry {
             stamp,
@@ -343,7 +356,7 @@ impl History {
         });
         let last = self.entries.as_slice().len() - 1;
         let entry = &mut self.entries[last];
-        let deed = apply_own(chip, node, &mut entry.saved);
+        let deed = apply_own_event(chip, node, &mut entry.saved);
         let part = part_of(deed);
         entry.part = part;
         note_look(&mut self.looked, last, deed);
@@ -353,8 +366,8 @@ impl History {
     /// Takes the last entry out.
     #[inline(always)]
     pub fn pop(&mut self) -> Taken
-        requires { 0 < bound_of self.old.items }
-        ensures { self.old.items ≡ self.new.items ++ past_of result ∷ [] }
+        requires { 0 < stamp_bound_of_history self.old.items }
+        ensures { self.old.items ≡ self.new.items ++ entry_record_of_taken result ∷ [] }
     {
         match self.entries.pop() {
             None => unreachable!(),
@@ -376,14 +389,14 @@ impl History {
 
     /// Writes the values of the last entry back to its node, and takes the entry out.
     #[inline(always)]
-    pub fn undo_last_entry(&mut self, chip: &mut Chip, node: NodeId) -> EntryAct
-        requires some { 0 < bound_of self.old.items }
-        requires can { CanGoBack self.old.items chip.old node.number }
-        ensures { IsGoneBack self.old.items chip.old node.number self.new.items chip.new result }
+    pub fn undo_last_entry(&mut self, chip: &mut Chip, node: NodeId) -> EntryRole
+        requires some { 0 < stamp_bound_of_history self.old.items }
+        requires can { CanWriteBackLastEntry self.old.items chip.old node.number }
+        ensures { IsLastEntryWrittenBack self.old.items chip.old node.number self.new.items chip.new result }
     {
         let last = self.entries.as_slice().len() - 1;
         let entry = &self.entries[last];
-        undo_node(chip, node, &entry.saved);
+        restore_node_values(chip, node, &entry.saved);
         let part = entry.part;
         let place = entry.place;
         let _ = self.entries.pop();

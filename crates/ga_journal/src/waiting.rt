@@ -14,13 +14,13 @@ pub(crate) struct PendingNodes {
 
 impl Model for PendingNodes {
     ghost use Rattle.std.specs.Prelude.{Bool, List};
-    ghost use Rattle.ga_journal.specs.inner.Histories.{IsWindow};
+    ghost use Rattle.ga_journal.specs.inner.Histories.{AreSetFlagsInWindow};
 
     ghost Value = { List Bool };
 
     ghost view = { λ w. w.flags };
 
-    ghost invariant = { λ w. IsWindow w.flags w.first w.past };
+    ghost invariant = { λ w. AreSetFlagsInWindow w.flags w.first w.past };
 }
 
 impl PendingNodes {

@@ -13,7 +13,7 @@ use Rattle.hex.specs.Hex.{hex_digit_value}
 use Rattle.ga_ports.specs.Steps.{◌>>=◌}
 use Rattle.ga_text.specs.Lines.{Text}
 use Rattle.ga_json.specs.Values.{JsonValue, array, item, no_items, number, string, boolean}
-use Rattle.ga_json.specs.Grammar.{JsonChar, unescaped, letter, unicode_escape, surrogate_pair, char_text, char_bytes, chars_bytes, escape_letter_code, hex_escape_code, is_unescaped_byte, IsStructuralCharacter, IsJsonString, IsJsonInt, IsJsonValue, IsMoreArrayItems, IsJsonText}
+use Rattle.ga_json.specs.Grammar.{JsonChar, unescaped, letter, unicode_escape, surrogate_pair, json_char_text, decoded_json_char, decoded_json_chars, escape_letter_code, hex_escape_code, is_unescaped_byte, IsJsonStructuralCharacter, IsJsonString, IsJsonInt, IsJsonValue, IsMoreArrayItems, IsJsonText}
 use Rattle.ga_json.proofs.Characters.{string_is}
 use Rattle.ga_json.proofs.Written.{all_append, is_plain, plain_text, mark_is}
 
@@ -75,7 +75,7 @@ digits_visible (a ∷ b ∷ []) code e = absurd (cc)
 digits_visible (a ∷ b ∷ c ∷ []) code e = absurd (cc)
 digits_visible (a ∷ b ∷ c ∷ d ∷ more ∷ rest) code e = absurd (cc)
 
-char_visible : (char : JsonChar) (bytes : Text) → char_bytes char ≡ Some bytes → AreVisible (char_text char)
+char_visible : (char : JsonChar) (bytes : Text) → decoded_json_char char ≡ Some bytes → AreVisible (json_char_text char)
 char_visible (unescaped b) bytes e = (unescaped_visible b (test_holds (is_unescaped_byte b) _ bytes e), tt)
 char_visible (letter b) bytes e = let (code, is, _) = first_some (escape_letter_code b) _ bytes e in (omega arith, (letter_visible b code is, tt))
 char_visible (unicode_escape digits) bytes e =
@@ -85,17 +85,17 @@ char_visible (surrogate_pair high low) bytes e =
     let (second, too, _) = first_some (hex_escape_code low) _ bytes rest in
     (omega arith, (omega arith, all_append high (92 ∷ 117 ∷ low) (digits_visible high first is) (omega arith, (omega arith, digits_visible low second too))))
 
-chars_visible : (chars : List JsonChar) (bytes : Text) → chars_bytes chars ≡ Some bytes → AreVisible (flat_map char_text chars)
+chars_visible : (chars : List JsonChar) (bytes : Text) → decoded_json_chars chars ≡ Some bytes → AreVisible (flat_map json_char_text chars)
 chars_visible [] bytes e = tt
 chars_visible (char ∷ chars) bytes e =
-    let (first, is, rest) = first_some (char_bytes char) _ bytes e in
-    let (more, are, _) = first_some (chars_bytes chars) _ bytes rest in
-    all_append (char_text char) (flat_map char_text chars) (char_visible char first is) (chars_visible chars more are)
+    let (first, is, rest) = first_some (decoded_json_char char) _ bytes e in
+    let (more, are, _) = first_some (decoded_json_chars chars) _ bytes rest in
+    all_append (json_char_text char) (flat_map json_char_text chars) (char_visible char first is) (chars_visible chars more are)
 
 pub string_has_no_control : (text bytes : Text) → IsJsonString text bytes → All (λ b. 32 ≤ b) text
 string_has_no_control text bytes h =
-    let visible : AreVisible (34 ∷ (flat_map char_text h.0 ++ 34 ∷ [])) =
-    (omega arith, all_append (flat_map char_text h.0) (34 ∷ []) (chars_visible h.0 bytes h.2) (omega arith, tt)) in
+    let visible : AreVisible (34 ∷ (flat_map json_char_text h.0 ++ 34 ∷ [])) =
+    (omega arith, all_append (flat_map json_char_text h.0) (34 ∷ []) (chars_visible h.0 bytes h.2) (omega arith, tt)) in
     All-from_recursion (λ b. 32 ≤ b) text (subst AreVisible (sym h.1) visible)
 
 -- ---- the examples of RFC 8259
@@ -123,7 +123,7 @@ text_is text value plain same is = record {
 three : (a b c n : ℕ) → AllDigits 10 (a ∷ b ∷ c ∷ []) → digits_value 10 (a ∷ b ∷ c ∷ []) ≡ n → (a ≡ 48 → ⊥) → IsJsonInt (a ∷ b ∷ c ∷ []) n
 three a b c n digits is some = ((omega arith, digits), is, λ e. absurd (some e))
 
-comma_is : IsStructuralCharacter 44 (codes ", ")
+comma_is : IsJsonStructuralCharacter 44 (codes ", ")
 comma_is = ([], codes " ", tt, (refl, tt), refl)
 
 pub ids : IsJsonText (codes "[116, 943, 234, 38793]") (array (item (number (pos 116)) (item (number (pos 943)) (item (number (pos 234)) (item (number (pos 38793)) no_items)))))

@@ -3,7 +3,7 @@ use Rattle.std.proofs.Common.{◌≡◌, [], ◌++◌, Option, Result, Ok, Err, 
 use Rattle.std.specs.Prelude.{IsErr}
 use Rattle.std.proofs.lemmas.List.{append-nil}
 use Rattle.ga_text.specs.Lines.{Bytes, Text}
-use Rattle.ga_text.specs.Output.{IsTextWritten, IsTextTruncated, IsSameStream, WritesExactly}
+use Rattle.ga_text.specs.Output.{IsTextWrittenOrPending, IsTextTruncated, IsSameStream, WritesExactly}
 use Rattle.ga_text.specs.declared.output.WriteError.{WriteError}
 use Rattle.ga_text.specs.declared.output.Writer.{Writer}
 use Rattle.ga_text.proofs.WriteLemmas.{said_assoc, written_as, written_pending, cut_assoc, truncated_here, truncated_within}
@@ -11,20 +11,20 @@ use Rattle.ga_text.proofs.WriteLemmas.{said_assoc, written_as, written_pending, 
 -- what `WritesExactly` says of a call that succeeded, and of one that failed
 abbrev pub SaysAll : {W : Type 0} → (W → Option Bytes) → Writer W → Writer W → Text → Type 0
 SaysAll contents old new text = IsSameStream old new
-    × ((before said : Text) → IsTextWritten (contents old.stream.now) before said old.pending.items → IsTextWritten (contents new.stream.now) before (said ++ text) new.pending.items)
+    × ((before said : Text) → IsTextWrittenOrPending (contents old.stream.now) before said old.pending.items → IsTextWrittenOrPending (contents new.stream.now) before (said ++ text) new.pending.items)
 
 abbrev pub SaysFront : {W : Type 0} → (W → Option Bytes) → Writer W → Writer W → Text → Type 0
 SaysFront contents old new text = IsSameStream old new
-    × ((before said : Text) → IsTextWritten (contents old.stream.now) before said old.pending.items → IsTextTruncated (contents new.stream.now) before (said ++ text))
+    × ((before said : Text) → IsTextWrittenOrPending (contents old.stream.now) before said old.pending.items → IsTextTruncated (contents new.stream.now) before (said ++ text))
 
 -- what `WritesNothing` says of a call that succeeded, and of one that failed
 abbrev pub KeepsSaid : {W : Type 0} → (W → Option Bytes) → Writer W → Writer W → Type 0
 KeepsSaid contents old new = IsSameStream old new
-    × ((before said : Text) → IsTextWritten (contents old.stream.now) before said old.pending.items → IsTextWritten (contents new.stream.now) before said new.pending.items)
+    × ((before said : Text) → IsTextWrittenOrPending (contents old.stream.now) before said old.pending.items → IsTextWrittenOrPending (contents new.stream.now) before said new.pending.items)
 
 abbrev pub CutsSaid : {W : Type 0} → (W → Option Bytes) → Writer W → Writer W → Type 0
 CutsSaid contents old new = IsSameStream old new
-    × ((before said : Text) → IsTextWritten (contents old.stream.now) before said old.pending.items → IsTextTruncated (contents new.stream.now) before said)
+    × ((before said : Text) → IsTextWrittenOrPending (contents old.stream.now) before said old.pending.items → IsTextTruncated (contents new.stream.now) before said)
 
 -- of a whole text all but a rest was said
 pub record SaysUpTo {W : Type 0} (contents : W → Option Bytes) (old new : Writer W) (whole rest : Text) : Type 0 where

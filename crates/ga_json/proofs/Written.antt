@@ -10,15 +10,15 @@ use Rattle.std.proofs.lemmas.Grind.{flat_map-append}
 use Rattle.std.proofs.lemmas.Bool.{cond_both, and_parts, and_from, leb-true, ltb-true, agree_below_at, cases_lt}
 use Rattle.std.proofs.lemmas.Str.{IsUtf8-append, IsUtf8-nil, encode_ascii}
 use Rattle.hex.specs.Hex.{lower_digits}
-use Rattle.ga_word.specs.Word.{hex_digit}
+use Rattle.ga_word.specs.Word.{hex_digit_at_place}
 use Rattle.ga_text.specs.Lines.{Text}
-use Rattle.ga_text.specs.Digits.{hex2_of}
+use Rattle.ga_text.specs.Digits.{two_hex_digits_text}
 use Rattle.ga_json.specs.Values.{JsonValue, null, boolean, number, string, array, object, JsonItems, no_items, item, JsonMembers, no_members, member}
-use Rattle.ga_json.specs.Grammar.{IsStructuralCharacter, IsJsonValue, IsArrayItems, IsMoreArrayItems, IsObjectMembers, IsMoreObjectMembers, IsJsonText}
-use Rattle.ga_json.specs.Compact.{control_text, escape_text, escaped_text, quoted_text, optional_comma, natural_text, compact_json_text, array_items_text, object_members_text, json_line, IsWritableValue, AreWritableItems, AreWritableMembers}
+use Rattle.ga_json.specs.Grammar.{IsJsonStructuralCharacter, IsJsonValue, IsArrayItems, IsMoreArrayItems, IsObjectMembers, IsMoreObjectMembers, IsJsonText}
+use Rattle.ga_json.specs.Compact.{control_character_text, escaped_byte_text, escaped_text, quoted_text, optional_comma, natural_text, compact_json_text, array_items_text, object_members_text, json_line, IsWritableValue, AreWritableItems, AreWritableMembers}
 use Rattle.ga_json.specs.Names.{is_field_name_byte, are_field_name_bytes}
 use Rattle.ga_json.specs.FieldValues.{field_value_json}
-use Rattle.ga_json.specs.Fields.{named_field_value, with_members}
+use Rattle.ga_json.specs.Fields.{named_field_value, members_with_named_values}
 use Rattle.ga_json.specs.declared.field.Field.{Field}
 use Rattle.ga_json.proofs.Digits.{by_digits, int_is}
 use Rattle.ga_json.proofs.Texts.{escape_plain, name_byte}
@@ -26,7 +26,7 @@ use Rattle.ga_json.proofs.Characters.{string_is}
 
 -- ---- the text is one of the value
 
-pub mark_is : (mark : ℕ) → IsStructuralCharacter mark (mark ∷ [])
+pub mark_is : (mark : ℕ) → IsJsonStructuralCharacter mark (mark ∷ [])
 mark_is mark = ([], [], tt, tt, refl)
 
 mutual
@@ -97,14 +97,14 @@ natural_plain n =
 
 -- ---- strings
 
-hex_plain : (b place : ℕ) → IsPlain (hex_digit b place ∷ [])
+hex_plain : (b place : ℕ) → IsPlain (hex_digit_at_place b place ∷ [])
 hex_plain b place =
     let small : b / 16 ^ place % 16 < 16 = omega arith in
     let is = agree_below_at (λ d. nat_le 32 (slice_index lower_digits d) && nat_lt (slice_index lower_digits d) 128) (λ d. true) 16 (b / 16 ^ place % 16) refl small in
-    let sides = and_parts (nat_le 32 (hex_digit b place)) (nat_lt (hex_digit b place) 128) is in
-    plain_byte (hex_digit b place) (leb-true 32 (hex_digit b place) sides.0) (ltb-true (hex_digit b place) 128 sides.1)
+    let sides = and_parts (nat_le 32 (hex_digit_at_place b place)) (nat_lt (hex_digit_at_place b place) 128) is in
+    plain_byte (hex_digit_at_place b place) (leb-true 32 (hex_digit_at_place b place) sides.0) (ltb-true (hex_digit_at_place b place) 128 sides.1)
 
-control_plain : (b : ℕ) → IsPlain (control_text b)
+control_plain : (b : ℕ) → IsPlain (control_character_text b)
 unfolding is_plain
 control_plain b =
     cond_both (b == 8) _ _ IsPlain (λ _. plain_text (codes "\\b") refl)
@@ -112,9 +112,9 @@ control_plain b =
     (λ _. cond_both (b == 10) _ _ IsPlain (λ _. plain_text (codes "\\n") refl)
     (λ _. cond_both (b == 12) _ _ IsPlain (λ _. plain_text (codes "\\f") refl)
     (λ _. cond_both (b == 13) _ _ IsPlain (λ _. plain_text (codes "\\r") refl)
-    (λ _. plain_append (codes "\\u00") (hex2_of b) (plain_text (codes "\\u00") refl) (plain_append (hex_digit b 1 ∷ []) (hex_digit b 0 ∷ []) (hex_plain b 1) (hex_plain b 0)))))))
+    (λ _. plain_append (codes "\\u00") (two_hex_digits_text b) (plain_text (codes "\\u00") refl) (plain_append (hex_digit_at_place b 1 ∷ []) (hex_digit_at_place b 0 ∷ []) (hex_plain b 1) (hex_plain b 0)))))))
 
-escape_is_plain : (b : ℕ) → b < 128 → IsPlain (escape_text b)
+escape_is_plain : (b : ℕ) → b < 128 → IsPlain (escaped_byte_text b)
 unfolding is_plain
 escape_is_plain b high =
     cond_both (b == 34) _ _ IsPlain (λ _. plain_text (92 ∷ 34 ∷ []) refl)
@@ -146,7 +146,7 @@ char_plain : (c : ℕ) → scalar c ≡ true → IsPlain (escaped_text (encode c
 char_plain c is =
     ⊎_elim
     (λ low. let P : Text → Type 0 = λ z. IsPlain (escaped_text z) in
-    subst P (sym (encode_ascii c low)) (plain_append (escape_text c) [] (escape_is_plain c low) plain_nil))
+    subst P (sym (encode_ascii c low)) (plain_append (escaped_byte_text c) [] (escape_is_plain c low) plain_nil))
     (λ high. let bytes = high_bytes c high in
     subst IsPlain (sym (high_escaped (encode c) bytes)) ((c ∷ [], (and_from (scalar c) true is refl, append-nil (encode c))), high_plain (encode c) bytes))
     (cases_lt c 128)
@@ -155,7 +155,7 @@ chars_plain : (cs : List ℕ) → scalars cs ≡ true → IsPlain (escaped_text 
 chars_plain [] h = plain_nil
 chars_plain (c ∷ cs) h =
     let parts = and_parts (scalar c) (scalars cs) h in
-    subst IsPlain (sym (flat_map-append escape_text (encode c) (encodes cs)))
+    subst IsPlain (sym (flat_map-append escaped_byte_text (encode c) (encodes cs)))
     (plain_append (escaped_text (encode c)) (escaped_text (encodes cs)) (char_plain c parts.0) (chars_plain cs parts.1))
 
 escaped_plain : (bytes : Text) → IsUtf8 bytes → IsPlain (escaped_text bytes)
@@ -230,7 +230,7 @@ name_utf8 (b ∷ bs) h =
     IsUtf8-append (b ∷ []) bs (plain_byte b byte.0 byte.1).0 (name_utf8 bs parts.1)
 
 pub fields_writable : (fields : List Field) (more : JsonMembers) → AllByRecursion (λ field. IsWritableValue (field_value_json field.value)) fields → AreWritableMembers more
-    → AreWritableMembers (with_members (map named_field_value fields) more)
+    → AreWritableMembers (members_with_named_values (map named_field_value fields) more)
 fields_writable [] more h k = k
 fields_writable (field ∷ fields) more h k =
     (name_utf8 field.name.now (and_parts (nat_le _ 24) (are_field_name_bytes field.name.now) field.named_field_value).1, h.0, fields_writable fields more h.1 k)

@@ -2,29 +2,29 @@
 use Rattle.std.specs.Prelude.{ℕ, zero, suc, ℤ, pos, negsuc, ◌+◌, ◌/◌, ◌%◌, Bool, true, false, if◌then◌else◌, ◌==◌, nat_le, nat_lt, [], ◌∷◌, ◌++◌, flat_map, codes}
 use Rattle.std.specs.Str.{IsUtf8}
 use Rattle.ga_text.specs.Lines.{Text}
-use Rattle.ga_text.specs.Digits.{hex2_of}
+use Rattle.ga_text.specs.Digits.{two_hex_digits_text}
 use Rattle.ga_json.specs.Values.{JsonValue, null, boolean, number, string, array, object, JsonItems, no_items, item, JsonMembers, no_members, member}
 
 -- a control character: by its letter, or by its four digits
-abbrev pub control_text : ℕ → Text
-control_text b =
+abbrev pub control_character_text : ℕ → Text
+control_character_text b =
     if b == 8 then codes "\\b"
     else if b == 9 then codes "\\t"
     else if b == 10 then codes "\\n"
     else if b == 12 then codes "\\f"
     else if b == 13 then codes "\\r"
-    else codes "\\u00" ++ hex2_of b
+    else codes "\\u00" ++ two_hex_digits_text b
 
 -- a byte of a string
-abbrev pub escape_text : ℕ → Text
-escape_text b =
+abbrev pub escaped_byte_text : ℕ → Text
+escaped_byte_text b =
     if b == 34 then 92 ∷ 34 ∷ []
     else if b == 92 then 92 ∷ 92 ∷ []
     else if nat_le 32 b then b ∷ []
-    else control_text b
+    else control_character_text b
 
 abbrev pub escaped_text : Text → Text
-escaped_text bytes = flat_map escape_text bytes
+escaped_text bytes = flat_map escaped_byte_text bytes
 
 abbrev pub quoted_text : Text → Text
 quoted_text bytes = 34 ∷ (escaped_text bytes ++ 34 ∷ [])

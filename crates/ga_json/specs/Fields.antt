@@ -13,16 +13,16 @@ abbrev pub named_field_value : Field → NamedValue
 named_field_value field = (field.name.now, field_value_json field.value)
 
 -- these as members, and more after them
-abbrev pub with_members : List NamedValue → JsonMembers → JsonMembers
-with_members [] more = more
-with_members (first ∷ rest) more = member first.0 first.1 (with_members rest more)
+abbrev pub members_with_named_values : List NamedValue → JsonMembers → JsonMembers
+members_with_named_values [] more = more
+members_with_named_values (first ∷ rest) more = member first.0 first.1 (members_with_named_values rest more)
 
 abbrev pub json_object : List NamedValue → JsonValue
-json_object fields = object (with_members fields no_members)
+json_object fields = object (members_with_named_values fields no_members)
 
 -- an answer with rows: its head, and the rows as an array
 abbrev pub json_report : List NamedValue → JsonItems → JsonValue
-json_report head rows = object (with_members head (member (codes "rows") (array rows) no_members))
+json_report head rows = object (members_with_named_values head (member (codes "rows") (array rows) no_members))
 
 abbrev pub row_json : List Field → JsonValue
 row_json fields = json_object (map named_field_value fields)

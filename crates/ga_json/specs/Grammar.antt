@@ -17,8 +17,8 @@ is_json_space b = b == 32 || (b == 9 || (b == 10 || b == 13))
 abbrev pub IsJsonSpace : Text → Type 0
 IsJsonSpace text = AllByRecursion (λ b. IsTrue (is_json_space b)) text
 
-abbrev pub IsStructuralCharacter : ℕ → Text → Type 0
-IsStructuralCharacter mark text = (before after : Text) × IsJsonSpace before × IsJsonSpace after × (text ≡ before ++ mark ∷ after)
+abbrev pub IsJsonStructuralCharacter : ℕ → Text → Type 0
+IsJsonStructuralCharacter mark text = (before after : Text) × IsJsonSpace before × IsJsonSpace after × (text ≡ before ++ mark ∷ after)
 
 -- ---- section 6: numbers
 
@@ -82,11 +82,11 @@ pub data JsonChar : Type 0 where
   unicode_escape : Text → JsonChar
   surrogate_pair : Text → Text → JsonChar
 
-abbrev pub char_text : JsonChar → Text
-char_text (unescaped b) = b ∷ []
-char_text (letter b) = 92 ∷ b ∷ []
-char_text (unicode_escape digits) = 92 ∷ 117 ∷ digits
-char_text (surrogate_pair high low) = 92 ∷ 117 ∷ (high ++ 92 ∷ 117 ∷ low)
+abbrev pub json_char_text : JsonChar → Text
+json_char_text (unescaped b) = b ∷ []
+json_char_text (letter b) = 92 ∷ b ∷ []
+json_char_text (unicode_escape digits) = 92 ∷ 117 ∷ digits
+json_char_text (surrogate_pair high low) = 92 ∷ 117 ∷ (high ++ 92 ∷ 117 ∷ low)
 
 -- the bytes that a character denotes; half a character alone denotes none (section 8.2)
 abbrev pub code_point_bytes : ℕ → Option Text
@@ -95,29 +95,29 @@ code_point_bytes code = if is_high_surrogate code || is_low_surrogate code then 
 abbrev pub surrogate_pair_bytes : ℕ → ℕ → Option Text
 surrogate_pair_bytes high low = if is_high_surrogate high && is_low_surrogate low then Some (encode_utf8 (surrogate_pair_code high low)) else None
 
-abbrev pub char_bytes : JsonChar → Option Text
-char_bytes (unescaped b) = if is_unescaped_byte b then Some (b ∷ []) else None
-char_bytes (letter b) = do
+abbrev pub decoded_json_char : JsonChar → Option Text
+decoded_json_char (unescaped b) = if is_unescaped_byte b then Some (b ∷ []) else None
+decoded_json_char (letter b) = do
   code ← escape_letter_code b
   Some (code ∷ [])
-char_bytes (unicode_escape digits) = do
+decoded_json_char (unicode_escape digits) = do
   code ← hex_escape_code digits
   code_point_bytes code
-char_bytes (surrogate_pair high low) = do
+decoded_json_char (surrogate_pair high low) = do
   first ← hex_escape_code high
   second ← hex_escape_code low
   surrogate_pair_bytes first second
 
-abbrev pub chars_bytes : List JsonChar → Option Text
-chars_bytes [] = Some []
-chars_bytes (char ∷ chars) = do
-  first ← char_bytes char
-  more ← chars_bytes chars
+abbrev pub decoded_json_chars : List JsonChar → Option Text
+decoded_json_chars [] = Some []
+decoded_json_chars (char ∷ chars) = do
+  first ← decoded_json_char char
+  more ← decoded_json_chars chars
   Some (first ++ more)
 
 -- a text between quotation marks, that denotes these bytes
 abbrev pub IsJsonString : Text → Text → Type 0
-IsJsonString text bytes = (chars : List JsonChar) × (text ≡ 34 ∷ (flat_map char_text chars ++ 34 ∷ [])) × (chars_bytes chars ≡ Some bytes)
+IsJsonString text bytes = (chars : List JsonChar) × (text ≡ 34 ∷ (flat_map json_char_text chars ++ 34 ∷ [])) × (decoded_json_chars chars ≡ Some bytes)
 
 -- ---- sections 3 to 5: values, objects, arrays
 
@@ -128,9 +128,9 @@ abbrev mutual
   IsJsonValue text (number z) = IsJsonNumber text z
   IsJsonValue text (string bytes) = IsJsonString text bytes
   IsJsonValue text (array items) =
-      (begin values end : Text) × IsStructuralCharacter 91 begin × IsArrayItems values items × IsStructuralCharacter 93 end × (text ≡ begin ++ (values ++ end))
+      (begin values end : Text) × IsJsonStructuralCharacter 91 begin × IsArrayItems values items × IsJsonStructuralCharacter 93 end × (text ≡ begin ++ (values ++ end))
   IsJsonValue text (object members) =
-      (begin values end : Text) × IsStructuralCharacter 123 begin × IsObjectMembers values members × IsStructuralCharacter 125 end × (text ≡ begin ++ (values ++ end))
+      (begin values end : Text) × IsJsonStructuralCharacter 123 begin × IsObjectMembers values members × IsJsonStructuralCharacter 125 end × (text ≡ begin ++ (values ++ end))
 
   -- nothing, or values with a comma between two
   pub IsArrayItems : Text → JsonItems → Type 0
@@ -140,19 +140,19 @@ abbrev mutual
   pub IsMoreArrayItems : Text → JsonItems → Type 0
   IsMoreArrayItems text no_items = text ≡ []
   IsMoreArrayItems text (item value items) =
-      (comma first more : Text) × IsStructuralCharacter 44 comma × IsJsonValue first value × IsMoreArrayItems more items × (text ≡ comma ++ (first ++ more))
+      (comma first more : Text) × IsJsonStructuralCharacter 44 comma × IsJsonValue first value × IsMoreArrayItems more items × (text ≡ comma ++ (first ++ more))
 
   -- a name, a colon and a value
   pub IsObjectMembers : Text → JsonMembers → Type 0
   IsObjectMembers text no_members = text ≡ []
   IsObjectMembers text (member name value members) =
-      (quoted_text colon first more : Text) × IsJsonString quoted_text name × IsStructuralCharacter 58 colon × IsJsonValue first value × IsMoreObjectMembers more members
+      (quoted_text colon first more : Text) × IsJsonString quoted_text name × IsJsonStructuralCharacter 58 colon × IsJsonValue first value × IsMoreObjectMembers more members
       × (text ≡ quoted_text ++ (colon ++ (first ++ more)))
 
   pub IsMoreObjectMembers : Text → JsonMembers → Type 0
   IsMoreObjectMembers text no_members = text ≡ []
   IsMoreObjectMembers text (member name value members) =
-      (comma quoted_text colon first more : Text) × IsStructuralCharacter 44 comma × IsJsonString quoted_text name × IsStructuralCharacter 58 colon × IsJsonValue first value
+      (comma quoted_text colon first more : Text) × IsJsonStructuralCharacter 44 comma × IsJsonString quoted_text name × IsJsonStructuralCharacter 58 colon × IsJsonValue first value
       × IsMoreObjectMembers more members × (text ≡ comma ++ (quoted_text ++ (colon ++ (first ++ more))))
 
 -- ---- sections 2 and 8.1: a value between white space, in UTF-8

@@ -2,7 +2,7 @@
 
 ghost use Rattle.std.specs.Prelude.{◌≡◌, option_map};
 ghost use Rattle.ga_json.specs.Values.{JsonItems};
-ghost use Rattle.ga_json.specs.inner.{rows_from};
+ghost use Rattle.ga_json.specs.inner.{rows_from_first_row};
 
 use crate::field::RowFields;
 
@@ -13,5 +13,5 @@ pub trait RowCursor<'a> {
 
     /// The next row; none after the last.
     fn next(&mut self) -> Option<RowFields<'a>>
-        ensures row { left self.old ≡ rows_from (option_map (λ row. row.items) result) (left self.new) };
+        ensures row { left self.old ≡ rows_from_first_row (option_map (λ row. row.items) result) (left self.new) };
 }

@@ -3,7 +3,7 @@
 ghost use Rattle.std.specs.Prelude.{◌≡◌, option_map};
 ghost use Rattle.ga_text.specs.Output.{WritesExactly};
 ghost use Rattle.ga_json.specs.Compact.{json_line};
-ghost use Rattle.ga_json.specs.Diagnostics.{text_after_word, without_leading_word, is_colon, without_last_colon, line_number_and_text, diagnostic_parts, diagnostic_word, diagnostic_object, diagnostics_json};
+ghost use Rattle.ga_json.specs.Diagnostics.{text_after_word, text_without_leading_word, is_colon, text_without_last_colon, parse_line_number_and_text, diagnostic_line_and_reason, diagnostic_answer_word, diagnostic_object, diagnostics_json};
 
 use crate::field::Field;
 use crate::optional_fields::{optional_number_field, text_field};
@@ -38,21 +38,21 @@ pub fn write_diagnostics<W: Write>(
 fn write_diagnostic<W: Write>(file: &[u8], line: &[u8], writer: &mut Writer<'_, W>) -> WriteResult
     ensures { WritesExactly result (json_line (diagnostic_object file.now line.now)) W.contents writer.old writer.new }
 {
-    let (number, reason) = diagnostic_parts(line);
+    let (number, reason) = diagnostic_line_and_reason(line);
     write_object(
         &[
-            Field::text(b"answer", diagnostic_word(reason)),
+            Field::text(b"answer", diagnostic_answer_word(reason)),
             text_field(b"file", file),
             optional_number_field(b"line", number),
-            text_field(b"text", without_leading_word(b"warning:", reason)),
+            text_field(b"text", text_without_leading_word(b"warning:", reason)),
         ],
         writer,
     )
 }
 
 /// What a reason is: a warning, or that of a refusal.
-fn diagnostic_word(reason: &[u8]) -> &'static [u8]
-    ensures { result.now ≡ diagnostic_word reason.now }
+fn diagnostic_answer_word(reason: &[u8]) -> &'static [u8]
+    ensures { result.now ≡ diagnostic_answer_word reason.now }
 {
     match text_after_word(b"warning:", reason) {
         Some(_) => b"warning",
@@ -61,20 +61,20 @@ fn diagnostic_word(reason: &[u8]) -> &'static [u8]
 }
 
 /// The number of the source's line, if a line names one, and the reason.
-fn diagnostic_parts(line: &[u8]) -> (Option<u64>, &[u8])
-    ensures number { result.0 ≡ (diagnostic_parts line.now).0 }
-    ensures reason { result.1.now ≡ (diagnostic_parts line.now).1 }
+fn diagnostic_line_and_reason(line: &[u8]) -> (Option<u64>, &[u8])
+    ensures number { result.0 ≡ (diagnostic_line_and_reason line.now).0 }
+    ensures reason { result.1.now ≡ (diagnostic_line_and_reason line.now).1 }
 {
-    let text = without_leading_word(b"ga144:", line);
-    match line_number_and_text(text) {
+    let text = text_without_leading_word(b"ga144:", line);
+    match parse_line_number_and_text(text) {
         Some((number, reason)) => (Some(u64::from(number)), reason),
         None => (None, text),
     }
 }
 
 /// A text without this word, if it begins with it.
-fn without_leading_word<'a>(word: &[u8], text: &'a [u8]) -> &'a [u8]
-    ensures { result.now ≡ without_leading_word word.now text.now }
+fn text_without_leading_word<'a>(word: &[u8], text: &'a [u8]) -> &'a [u8]
+    ensures { result.now ≡ text_without_leading_word word.now text.now }
 {
     match text_after_word(word, text) {
         Some(rest) => rest,
@@ -83,11 +83,11 @@ fn without_leading_word<'a>(word: &[u8], text: &'a [u8]) -> &'a [u8]
 }
 
 /// The number of a line of the source, and the text after it.
-fn line_number_and_text(text: &[u8]) -> Option<(u32, &[u8])>
-    ensures { option_map (λ parts. (parts.0, parts.1.now)) result ≡ line_number_and_text text.now }
+fn parse_line_number_and_text(text: &[u8]) -> Option<(u32, &[u8])>
+    ensures { option_map (λ parts. (parts.0, parts.1.now)) result ≡ parse_line_number_and_text text.now }
 {
     let (numeral, reason) = split_at_space(text_after_word(b"line", text)?)?;
-    let number = parse_number(without_last_colon(numeral))?;
+    let number = parse_number(text_without_last_colon(numeral))?;
     Some((number, reason))
 }
 
@@ -100,8 +100,8 @@ fn text_after_word<'a>(word: &[u8], text: &'a [u8]) -> Option<&'a [u8]>
 }
 
 /// A word without a colon at its end.
-fn without_last_colon(word: &[u8]) -> &[u8]
-    ensures { result.now ≡ without_last_colon word.now }
+fn text_without_last_colon(word: &[u8]) -> &[u8]
+    ensures { result.now ≡ text_without_last_colon word.now }
 {
     if is_colon(word.last()) {
         word.split_at(word.len() - 1).0

@@ -6,10 +6,10 @@ ghost use Rattle.ga_text.specs.Output.{WritesExactly};
 ghost use Rattle.ga_text.specs.Digits.{name_of_node};
 ghost use Rattle.ga_json.specs.Compact.{natural_text, compact_json_text, optional_comma};
 ghost use Rattle.ga_json.specs.FieldValues.{field_value_json};
-ghost use Rattle.ga_json.specs.inner.{field_text, fields_text};
+ghost use Rattle.ga_json.specs.inner.{json_field_text, json_fields_text};
 
 use crate::field::{Field, FieldValue};
-use crate::strings::{write_joined_string, write_string};
+use crate::strings::{write_joined_string, write_json_string};
 use arrayvec::ArrayVec;
 use ga_grid::NodeId;
 use ga_text::{
@@ -29,7 +29,7 @@ const KEY_ROOM: usize = NAME_ROOM + 4;
 /// # Errors
 /// A write failed.
 pub fn write_fields<W: Write>(fields: &[Field<'_>], writer: &mut Writer<'_, W>) -> WriteResult
-    ensures { WritesExactly result (fields_text false fields.now) W.contents writer.old writer.new }
+    ensures { WritesExactly result (json_fields_text false fields.now) W.contents writer.old writer.new }
 {
     let mut later = false;
     'fields: for field in fields {
@@ -41,7 +41,7 @@ pub fn write_fields<W: Write>(fields: &[Field<'_>], writer: &mut Writer<'_, W>) 
 
 /// Writes a field: its name, a colon and its value, after a comma if another is before it.
 fn write_field<W: Write>(later: bool, field: &Field<'_>, writer: &mut Writer<'_, W>) -> WriteResult
-    ensures { WritesExactly result (field_text later field.now) W.contents writer.old writer.new }
+    ensures { WritesExactly result (json_field_text later field.now) W.contents writer.old writer.new }
 {
     writer.make_room(KEY_ROOM + MAX_NUMBER_DIGITS)?;
     push_key(&mut writer.pending, later, field);
@@ -85,7 +85,7 @@ fn write_value<W: Write>(value: FieldValue<'_>, writer: &mut Writer<'_, W>) -> W
     match value {
         FieldValue::Number(number) => push_integer(&mut writer.pending, number),
         FieldValue::Node(node) => push_name(&mut writer.pending, node),
-        FieldValue::Text(text) => return write_string(text, writer),
+        FieldValue::Text(text) => return write_json_string(text, writer),
         FieldValue::Joined(front, rest) => return write_joined_string(front, rest, writer),
         FieldValue::Flag(flag) => push_text(
             &mut writer.pending,

@@ -4,7 +4,7 @@ ghost use Rattle.std.specs.Prelude.{◌≡◌, ◌++◌, false};
 ghost use Rattle.ga_text.specs.Output.{WritesExactly};
 ghost use Rattle.ga_json.specs.Compact.{json_line};
 ghost use Rattle.ga_json.specs.Fields.{row_json, report_json};
-ghost use Rattle.ga_json.specs.inner.{fields_text, rows_lead, row_lead};
+ghost use Rattle.ga_json.specs.inner.{json_fields_text, text_before_rows, text_before_row};
 
 use crate::cursor::RowCursor;
 use crate::field::Field;
@@ -33,18 +33,18 @@ pub fn write_report<'a, R: RowCursor<'a>, W: Write>(
 ) -> WriteResult
     ensures { WritesExactly result (json_line (report_json head.now (R.left rows.old))) W.contents writer.old writer.new }
 {
-    write_between(b"{", head, rows_lead(head), writer)?;
+    write_between(b"{", head, text_before_rows(head), writer)?;
     let mut later = false;
     'rows: while let Some(row) = rows.next() {
-        write_between(row_lead(later), row.as_slice(), b"}", writer)?;
+        write_between(text_before_row(later), row.as_slice(), b"}", writer)?;
         later = true;
     }
     writer.write_text(b"]}\n")
 }
 
 /// What begins the array of rows, after the fields of a head.
-fn rows_lead(head: &[Field<'_>]) -> &'static [u8]
-    ensures { result.now ≡ rows_lead head.now }
+fn text_before_rows(head: &[Field<'_>]) -> &'static [u8]
+    ensures { result.now ≡ text_before_rows head.now }
 {
     if head.is_empty() {
         b"\"rows\":["
@@ -54,8 +54,8 @@ fn rows_lead(head: &[Field<'_>]) -> &'static [u8]
 }
 
 /// What begins a row.
-fn row_lead(later: bool) -> &'static [u8]
-    ensures { result.now ≡ row_lead later }
+fn text_before_row(later: bool) -> &'static [u8]
+    ensures { result.now ≡ text_before_row later }
 {
     if later { b",{" } else { b"{" }
 }
@@ -67,7 +67,7 @@ fn write_between<W: Write>(
     after: &[u8],
     writer: &mut Writer<'_, W>,
 ) -> WriteResult
-    ensures { WritesExactly result (before.now ++ (fields_text false fields.now ++ after.now)) W.contents writer.old writer.new }
+    ensures { WritesExactly result (before.now ++ (json_fields_text false fields.now ++ after.now)) W.contents writer.old writer.new }
 {
     writer.write_blocks(before)?;
     write_fields(fields, writer)?;

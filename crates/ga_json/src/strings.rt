@@ -3,7 +3,7 @@
 ghost use Rattle.std.specs.Prelude.{◌≡◌, ◌≤◌, ◌<◌, ◌+◌, ◌++◌};
 ghost use Rattle.arrayvec.specs.ArrayVec.{array_vec_len};
 ghost use Rattle.ga_text.specs.Output.{WritesExactly};
-ghost use Rattle.ga_json.specs.Compact.{control_text, escape_text, escaped_text, quoted_text};
+ghost use Rattle.ga_json.specs.Compact.{control_character_text, escaped_byte_text, escaped_text, quoted_text};
 
 use arrayvec::ArrayVec;
 use ga_text::{WriteResult, Writer, push_hex_byte, push_text};
@@ -16,7 +16,7 @@ const ESCAPE_ROOM: usize = 6;
 ///
 /// # Errors
 /// A write failed.
-pub fn write_string<W: Write>(text: &[u8], writer: &mut Writer<'_, W>) -> WriteResult
+pub fn write_json_string<W: Write>(text: &[u8], writer: &mut Writer<'_, W>) -> WriteResult
     ensures { WritesExactly result (quoted_text text.now) W.contents writer.old writer.new }
 {
     writer.write_text(b"\"")?;
@@ -55,7 +55,7 @@ fn write_escaped<W: Write>(text: &[u8], writer: &mut Writer<'_, W>) -> WriteResu
 /// Adds a byte of a text, escaped if it is a quotation mark, a reverse solidus or a control character.
 fn push_escaped<const ROOM: usize>(out: &mut ArrayVec<u8, ROOM>, byte: u8)
     requires { array_vec_len out.old + ESCAPE_ROOM ≤ ROOM }
-    ensures { out.new.items ≡ out.old.items ++ escape_text byte }
+    ensures { out.new.items ≡ out.old.items ++ escaped_byte_text byte }
 {
     match byte {
         b'"' => push_text(out, b"\\\""),
@@ -68,7 +68,7 @@ fn push_escaped<const ROOM: usize>(out: &mut ArrayVec<u8, ROOM>, byte: u8)
 /// Adds a control character, escaped.
 fn push_control<const ROOM: usize>(out: &mut ArrayVec<u8, ROOM>, byte: u8)
     requires { array_vec_len out.old + ESCAPE_ROOM ≤ ROOM }
-    ensures { out.new.items ≡ out.old.items ++ control_text byte }
+    ensures { out.new.items ≡ out.old.items ++ control_character_text byte }
 {
     match byte {
         8 => push_text(out, b"\\b"),

@@ -1,26 +1,26 @@
 -- The value of a place right before a step, by the step's entry.
 use Rattle.std.proofs.Common.{◌≡◌, ℕ, zero, suc, ◌≤◌, List, [], ◌∷◌, ◌++◌, length, take, drop, refl, sym, ◌∙◌, ap, subst, arith, ◌+◌, ◌<◌, ◌==◌, Bool, true, false, cond, Option, Some, None, ⊎_elim}
 use Rattle.std.proofs.lemmas.List.{take-append-drop, length-set, get_or-set_same, get_or-set_other}
-use Rattle.ga_node.specs.Record.{NodeState, NodeRecord, HasListSizes, record_of}
+use Rattle.ga_node.specs.Record.{NodeState, NodeRecord, HasValidListSizes, record_of_node}
 use Rattle.ga_event.specs.Undo.{CanRestoreNode}
 use Rattle.ga_event.specs.Told.{count_steps}
 use Rattle.ga_journal.specs.Histories.{EntryRecord, JournalState, history}
-use Rattle.ga_journal.specs.Walked.{node_before_entries, CanRestoreEntries, old_value_of_place_or, old_value_among, value_before_entry, overwritten_value}
+use Rattle.ga_journal.specs.Walked.{node_before_entries, CanRestoreEntries, old_value_or_previous, old_value_of_place, value_before_entry, overwritten_value}
 use Rattle.ga_journal.proofs.Logs.{steps_log}
-use Rattle.ga_lab.specs.inner.LabInvariant.{MatchesLog, state_of}
+use Rattle.ga_lab.specs.inner.LabInvariant.{AreHistoriesOfChip, state_of}
 use Rattle.ga_lab.proofs.Stepping.{whole_of}
 use Rattle.ga_lab.proofs.Replays.{kept_steps, peeked, steps_front, can_peek}
 use Rattle.ga_rollback.proofs.Link.{walked-append}
 use Rattle.std.specs.Prelude.{IfSome, IfNone, slice_index, slice_set}
 use Rattle.std.proofs.lemmas.Bool.{eqb-true, eqb-false}
 use Rattle.std.proofs.lemmas.Option.{none-some, slice_get_cases}
-use Rattle.ga_node.specs.declared.place.Place.{Place}
-use Rattle.ga_node.specs.declared.place.Place.TheVariants.{P, A, B, Ram, Wait}
-use Rattle.ga_node.specs.State.{wait_of_code, with_restored_values, with_value, IsPlaceValueInRange, AreValuesInRange}
-use Rattle.ga_grid.specs.Chip.{node_at, record_at}
+use Rattle.ga_node.specs.declared.place.NodePlace.{NodePlace}
+use Rattle.ga_node.specs.declared.place.NodePlace.TheVariants.{P, A, B, Ram, Wait}
+use Rattle.ga_node.specs.State.{wait_of_code, node_with_restored_values, node_with_value, IsPlaceValueInRange, ArePlaceValuesValid}
+use Rattle.ga_grid.specs.Chip.{node_at, node_record_at}
 use Rattle.ga_journal.proofs.Walks.{overwritten_within, walked_one, can_one}
-use Rattle.ga_lab.specs.Machine.{chip_of, earlier_state}
-use Rattle.ga_lab.specs.Holding.{HoldsValue}
+use Rattle.ga_lab.specs.Machine.{chip_of_machine, earlier_state}
+use Rattle.ga_lab.specs.Holding.{HoldsPlaceValue}
 
 -- ---- A node walked back in parts
 
@@ -44,7 +44,7 @@ walked_between now behind last to from h l is e =
     e ∙ ap (λ (z : NodeState). node_before_entries z (drop to (take from h))) is ∙ sym (walked-append now (drop to (take from h)) (drop from h)) ∙ ap (node_before_entries now) (sym (between to from h l))
 
 -- a node's history has as many entries as the history of all events has steps of the node
-pub kept_long : (chip : List NodeState) (book : JournalState) (n : ℕ) → MatchesLog chip book → length (history book.histories n) ≡ count_steps n (state_of chip book).kept
+pub kept_long : (chip : List NodeState) (book : JournalState) (n : ℕ) → AreHistoriesOfChip chip book → length (history book.histories n) ≡ count_steps n (state_of chip book).kept
 kept_long chip book n tied = steps_log book n (whole_of chip book tied) ∙ kept_steps chip book n
 
 pub if_some : (o : Option ℕ) (Q : ℕ → Type 0) → ((old : ℕ) → o ≡ Some old → Q old) → IfSome o Q
@@ -71,9 +71,9 @@ left_ram : (ram : List ℕ) (cell other old value : ℕ) (later : Option ℕ) (s
 left_ram ram cell other old value later true is rest h = absurd (none-some old (sym h))
 left_ram ram cell other old value later false is rest h = get_or-set_other ram other cell old _ (eqb-false cell other is) ∙ rest h
 
-holds_old : (what place : Place) (old value : ℕ) (node : NodeState) (later : Option ℕ) → IsPlaceValueInRange place old → length node.ram ≡ 64
-    → (later ≡ Some value → HoldsValue (record_of node) what value) → old_value_of_place_or what place old later ≡ Some value → HoldsValue (record_of (with_value node place old)) what value
-unfolding record_of
+holds_old : (what place : NodePlace) (old value : ℕ) (node : NodeState) (later : Option ℕ) → IsPlaceValueInRange place old → length node.ram ≡ 64
+    → (later ≡ Some value → HoldsPlaceValue (record_of_node node) what value) → old_value_or_previous what place old later ≡ Some value → HoldsPlaceValue (record_of_node (node_with_value node place old)) what value
+unfolding record_of_node
 holds_old P P old value node later fit size rest h = same_some h
 holds_old P place old value node later fit size rest h = rest h
 holds_old A A old value node later fit size rest h = same_some h
@@ -87,9 +87,9 @@ holds_old (Ram cell) (Ram other) old value node later fit size rest h =
 holds_old (Ram cell) place old value node later fit size rest h = rest h
 holds_old what place old value node later fit size rest h = tt
 
-holds_left : (what place : Place) (old value : ℕ) (node : NodeState) (later : Option ℕ)
-    → (later ≡ None → HoldsValue (record_of node) what value) → old_value_of_place_or what place old later ≡ None → HoldsValue (record_of (with_value node place old)) what value
-unfolding record_of
+holds_left : (what place : NodePlace) (old value : ℕ) (node : NodeState) (later : Option ℕ)
+    → (later ≡ None → HoldsPlaceValue (record_of_node node) what value) → old_value_or_previous what place old later ≡ None → HoldsPlaceValue (record_of_node (node_with_value node place old)) what value
+unfolding record_of_node
 holds_left P P old value node later rest h = absurd (none-some old (sym h))
 holds_left P place old value node later rest h = rest h
 holds_left A A old value node later rest h = absurd (none-some old (sym h))
@@ -102,7 +102,7 @@ holds_left (Ram cell) (Ram other) old value node later rest h = left_ram node.ra
 holds_left (Ram cell) place old value node later rest h = rest h
 holds_left what place old value node later rest h = tt
 
-fits_old : (what place : Place) (old value : ℕ) (later : Option ℕ) → IsPlaceValueInRange place old → (later ≡ Some value → IsPlaceValueInRange what value) → old_value_of_place_or what place old later ≡ Some value → IsPlaceValueInRange what value
+fits_old : (what place : NodePlace) (old value : ℕ) (later : Option ℕ) → IsPlaceValueInRange place old → (later ≡ Some value → IsPlaceValueInRange what value) → old_value_or_previous what place old later ≡ Some value → IsPlaceValueInRange what value
 fits_old P P old value later fit rest h = subst (IsPlaceValueInRange P) (same_some h) fit
 fits_old A A old value later fit rest h = subst (IsPlaceValueInRange A) (same_some h) fit
 fits_old B B old value later fit rest h = subst (IsPlaceValueInRange B) (same_some h) fit
@@ -116,49 +116,49 @@ fits_old what place old value later fit rest h = rest h
 
 -- ---- all of an event, and of many
 
-fit_among : (what : Place) (saved : List (Place × ℕ)) (value : ℕ) → AreValuesInRange saved → old_value_among what saved ≡ Some value → IsPlaceValueInRange what value
-unfolding AreValuesInRange
+fit_among : (what : NodePlace) (saved : List (NodePlace × ℕ)) (value : ℕ) → ArePlaceValuesValid saved → old_value_of_place what saved ≡ Some value → IsPlaceValueInRange what value
+unfolding ArePlaceValuesValid
 fit_among what [] value fit h = absurd (none-some value h)
-fit_among what (x ∷ rest) value fit h = fits_old what x.0 x.1 value (old_value_among what rest) fit.0 (fit_among what rest value fit.1) h
+fit_among what (x ∷ rest) value fit h = fits_old what x.0 x.1 value (old_value_of_place what rest) fit.0 (fit_among what rest value fit.1) h
 
-size_with : (place : Place) (old : ℕ) (node : NodeState) → length (with_value node place old).ram ≡ length node.ram
+size_with : (place : NodePlace) (old : ℕ) (node : NodeState) → length (node_with_value node place old).ram ≡ length node.ram
 size_with (Ram cell) old node = length-set node.ram cell old
 size_with place old node = refl
 
-size_restored : (node : NodeState) (saved : List (Place × ℕ)) → length (with_restored_values node saved).ram ≡ length node.ram
-unfolding with_restored_values
+size_restored : (node : NodeState) (saved : List (NodePlace × ℕ)) → length (node_with_restored_values node saved).ram ≡ length node.ram
+unfolding node_with_restored_values
 size_restored node [] = refl
-size_restored node (x ∷ rest) = size_with x.0 x.1 (with_restored_values node rest) ∙ size_restored node rest
+size_restored node (x ∷ rest) = size_with x.0 x.1 (node_with_restored_values node rest) ∙ size_restored node rest
 
 size_walked : (node : NodeState) (es : List EntryRecord) → length (node_before_entries node es).ram ≡ length node.ram
 size_walked node [] = refl
 size_walked node (e ∷ es) = size_restored (node_before_entries node es) e.saved ∙ size_walked node es
 
-restored_old : (what : Place) (node : NodeState) (saved : List (Place × ℕ)) (value : ℕ) → AreValuesInRange saved → length node.ram ≡ 64 → old_value_among what saved ≡ Some value
-    → HoldsValue (record_of (with_restored_values node saved)) what value
-unfolding with_restored_values AreValuesInRange
+restored_old : (what : NodePlace) (node : NodeState) (saved : List (NodePlace × ℕ)) (value : ℕ) → ArePlaceValuesValid saved → length node.ram ≡ 64 → old_value_of_place what saved ≡ Some value
+    → HoldsPlaceValue (record_of_node (node_with_restored_values node saved)) what value
+unfolding node_with_restored_values ArePlaceValuesValid
 restored_old what node [] value fit size h = absurd (none-some value h)
 restored_old what node (x ∷ rest) value fit size h =
-    holds_old what x.0 x.1 value (with_restored_values node rest) (old_value_among what rest) fit.0 (size_restored node rest ∙ size) (restored_old what node rest value fit.1 size) h
+    holds_old what x.0 x.1 value (node_with_restored_values node rest) (old_value_of_place what rest) fit.0 (size_restored node rest ∙ size) (restored_old what node rest value fit.1 size) h
 
-restored_left : (what : Place) (node : NodeState) (saved : List (Place × ℕ)) (value : ℕ) → HoldsValue (record_of node) what value → old_value_among what saved ≡ None
-    → HoldsValue (record_of (with_restored_values node saved)) what value
-unfolding with_restored_values
+restored_left : (what : NodePlace) (node : NodeState) (saved : List (NodePlace × ℕ)) (value : ℕ) → HoldsPlaceValue (record_of_node node) what value → old_value_of_place what saved ≡ None
+    → HoldsPlaceValue (record_of_node (node_with_restored_values node saved)) what value
+unfolding node_with_restored_values
 restored_left what node [] value held h = held
 restored_left what node (x ∷ rest) value held h =
-    holds_left what x.0 x.1 value (with_restored_values node rest) (old_value_among what rest) (restored_left what node rest value held) h
+    holds_left what x.0 x.1 value (node_with_restored_values node rest) (old_value_of_place what rest) (restored_left what node rest value held) h
 
-walked_old : (now : NodeState) (h : List EntryRecord) (k value : ℕ) (what : Place) → length now.ram ≡ 64 → CanRestoreEntries now (drop k h) → overwritten_value h k what ≡ Some value
-    → HoldsValue (record_of (node_before_entries now (drop k h))) what value
+walked_old : (now : NodeState) (h : List EntryRecord) (k value : ℕ) (what : NodePlace) → length now.ram ≡ 64 → CanRestoreEntries now (drop k h) → overwritten_value h k what ≡ Some value
+    → HoldsPlaceValue (record_of_node (node_before_entries now (drop k h))) what value
 walked_old now h k value what size can is = ⊎_elim
     (λ found.
     let fit : CanRestoreNode (node_before_entries now (drop (k + 1) h)) found.0.saved = can_one now h k found.0 found.2 can in
-    subst (λ (z : NodeState). HoldsValue (record_of z) what value) (sym (walked_one now h k found.0 found.2))
+    subst (λ (z : NodeState). HoldsPlaceValue (record_of_node z) what value) (sym (walked_one now h k found.0 found.2))
     (restored_old what (node_before_entries now (drop (k + 1) h)) found.0.saved value fit.fit (size_walked now (drop (k + 1) h) ∙ size) (sym (ap (value_before_entry what) found.2) ∙ is)))
     (λ past. absurd (none-some value (sym (ap (value_before_entry what) past.1) ∙ is)))
     (slice_get_cases h k).1
 
-walked_fits : (now : NodeState) (h : List EntryRecord) (k value : ℕ) (what : Place) → CanRestoreEntries now (drop k h) → overwritten_value h k what ≡ Some value → IsPlaceValueInRange what value
+walked_fits : (now : NodeState) (h : List EntryRecord) (k value : ℕ) (what : NodePlace) → CanRestoreEntries now (drop k h) → overwritten_value h k what ≡ Some value → IsPlaceValueInRange what value
 walked_fits now h k value what can is = ⊎_elim
     (λ found.
     let fit : CanRestoreNode (node_before_entries now (drop (k + 1) h)) found.0.saved = can_one now h k found.0 found.2 can in
@@ -166,11 +166,11 @@ walked_fits now h k value what can is = ⊎_elim
     (λ past. absurd (none-some value (sym (ap (value_before_entry what) past.1) ∙ is)))
     (slice_get_cases h k).1
 
-walked_left : (now : NodeState) (h : List EntryRecord) (k value : ℕ) (what : Place) → k < length h → overwritten_value h k what ≡ None
-    → HoldsValue (record_of (node_before_entries now (drop (k + 1) h))) what value → HoldsValue (record_of (node_before_entries now (drop k h))) what value
+walked_left : (now : NodeState) (h : List EntryRecord) (k value : ℕ) (what : NodePlace) → k < length h → overwritten_value h k what ≡ None
+    → HoldsPlaceValue (record_of_node (node_before_entries now (drop (k + 1) h))) what value → HoldsPlaceValue (record_of_node (node_before_entries now (drop k h))) what value
 walked_left now h k value what l is held = ⊎_elim
     (λ found.
-    subst (λ (z : NodeState). HoldsValue (record_of z) what value) (sym (walked_one now h k found.0 found.2))
+    subst (λ (z : NodeState). HoldsPlaceValue (record_of_node z) what value) (sym (walked_one now h k found.0 found.2))
     (restored_left what (node_before_entries now (drop (k + 1) h)) found.0.saved value held (sym (ap (value_before_entry what) found.2) ∙ is)))
     (λ past. absurd (omega (arith, l, past.0)))
     (slice_get_cases h k).1
@@ -178,37 +178,37 @@ walked_left now h k value what l is held = ⊎_elim
 -- ---- of a node of a lab
 
 -- the record of a node after `at` of its steps
-there : (chip : List NodeState) (book : JournalState) (n at place : ℕ) → MatchesLog chip book → count_steps n (take place (state_of chip book).kept) ≡ at
-    → record_of (node_before_entries (node_at chip n) (drop at (history book.histories n))) ≡ record_at (chip_of (earlier_state (state_of chip book) place)) n
+there : (chip : List NodeState) (book : JournalState) (n at place : ℕ) → AreHistoriesOfChip chip book → count_steps n (take place (state_of chip book).kept) ≡ at
+    → record_of_node (node_before_entries (node_at chip n) (drop at (history book.histories n))) ≡ node_record_at (chip_of_machine (earlier_state (state_of chip book) place)) n
 there chip book n at place tied so_many = peeked chip book n place at (node_before_entries (node_at chip n) (drop at (history book.histories n))) tied so_many refl
 
-ram_size : (node : NodeState) → HasListSizes (record_of node) → length node.ram ≡ 64
-unfolding record_of
+ram_size : (node : NodeState) → HasValidListSizes (record_of_node node) → length node.ram ≡ 64
+unfolding record_of_node
 ram_size node sizes = sizes.ram
 
-pub old_is : (chip : List NodeState) (book : JournalState) (n at value place : ℕ) (what : Place) → MatchesLog chip book → HasListSizes (record_of (node_at chip n))
+pub old_is : (chip : List NodeState) (book : JournalState) (n at value place : ℕ) (what : NodePlace) → AreHistoriesOfChip chip book → HasValidListSizes (record_of_node (node_at chip n))
     → overwritten_value (history book.histories n) at what ≡ Some value → count_steps n (take place (state_of chip book).kept) ≡ at
-    → HoldsValue (record_at (chip_of (earlier_state (state_of chip book) place)) n) what value
+    → HoldsPlaceValue (node_record_at (chip_of_machine (earlier_state (state_of chip book) place)) n) what value
 old_is chip book n at value place what tied sizes is so_many =
-    subst (λ (z : NodeRecord). HoldsValue z what value) (there chip book n at place tied so_many)
+    subst (λ (z : NodeRecord). HoldsPlaceValue z what value) (there chip book n at place tied so_many)
     (walked_old (node_at chip n) (history book.histories n) at value what (ram_size (node_at chip n) sizes) (can_peek chip book n at tied) is)
 
-pub old_in_range : (chip : List NodeState) (book : JournalState) (n at value : ℕ) (what : Place) → MatchesLog chip book → overwritten_value (history book.histories n) at what ≡ Some value → IsPlaceValueInRange what value
+pub old_in_range : (chip : List NodeState) (book : JournalState) (n at value : ℕ) (what : NodePlace) → AreHistoriesOfChip chip book → overwritten_value (history book.histories n) at what ≡ Some value → IsPlaceValueInRange what value
 old_in_range chip book n at value what tied is = walked_fits (node_at chip n) (history book.histories n) at value what (can_peek chip book n at tied) is
 
-pub old_within : (chip : List NodeState) (book : JournalState) (n at value : ℕ) (what : Place) → MatchesLog chip book → overwritten_value (history book.histories n) at what ≡ Some value
+pub old_within : (chip : List NodeState) (book : JournalState) (n at value : ℕ) (what : NodePlace) → AreHistoriesOfChip chip book → overwritten_value (history book.histories n) at what ≡ Some value
     → at < count_steps n (state_of chip book).kept
 old_within chip book n at value what tied is =
     let long = kept_long chip book n tied in
     let within = overwritten_within (history book.histories n) at value what is in omega (arith, long, within)
 
-pub stays_there : (chip : List NodeState) (book : JournalState) (n at before behind value : ℕ) (what : Place) → MatchesLog chip book
+pub stays_there : (chip : List NodeState) (book : JournalState) (n at before behind value : ℕ) (what : NodePlace) → AreHistoriesOfChip chip book
     → overwritten_value (history book.histories n) at what ≡ None
     → count_steps n (take before (state_of chip book).kept) ≡ at → count_steps n (take behind (state_of chip book).kept) ≡ at + 1
-    → HoldsValue (record_at (chip_of (earlier_state (state_of chip book) behind)) n) what value → HoldsValue (record_at (chip_of (earlier_state (state_of chip book) before)) n) what value
+    → HoldsPlaceValue (node_record_at (chip_of_machine (earlier_state (state_of chip book) behind)) n) what value → HoldsPlaceValue (node_record_at (chip_of_machine (earlier_state (state_of chip book) before)) n) what value
 stays_there chip book n at before behind value what tied is first second held =
     let within : at < length (history book.histories n) =
     (let front = steps_front n behind (state_of chip book).kept in let long = kept_long chip book n tied in omega (arith, front, long, second)) in
-    subst (λ (z : NodeRecord). HoldsValue z what value) (there chip book n at before tied first)
+    subst (λ (z : NodeRecord). HoldsPlaceValue z what value) (there chip book n at before tied first)
     (walked_left (node_at chip n) (history book.histories n) at value what within is
-    (subst (λ (z : NodeRecord). HoldsValue z what value) (sym (there chip book n (at + 1) behind tied second)) held))
+    (subst (λ (z : NodeRecord). HoldsPlaceValue z what value) (sym (there chip book n (at + 1) behind tied second)) held))

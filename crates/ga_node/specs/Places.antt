@@ -1,10 +1,10 @@
 -- The places of a node: how great their values are.
 use Rattle.std.specs.Prelude.{ℕ}
-use Rattle.ga_node.specs.declared.place.Place.{Place}
-use Rattle.ga_node.specs.declared.place.Place.TheVariants.{T, S, DataCell, DataPointer, R, ReturnCell, ReturnPointer, Ram, Rom, A, B, P, I, Slot, Io, Carry, Wait, Stop}
+use Rattle.ga_node.specs.declared.place.NodePlace.{NodePlace}
+use Rattle.ga_node.specs.declared.place.NodePlace.TheVariants.{T, S, DataCell, DataPointer, R, ReturnCell, ReturnPointer, Ram, Rom, A, B, P, I, Slot, Io, Carry, Wait, Stop}
 
 -- the greatest value of a place
-abbrev pub greatest_place_value : Place → ℕ
+abbrev pub greatest_place_value : NodePlace → ℕ
 greatest_place_value T = 0x3ffff
 greatest_place_value S = 0x3ffff
 greatest_place_value (DataCell cell) = 0x3ffff

@@ -1,6 +1,6 @@
 //! The old values of many events, of each place the one that is written back last.
 
-ghost use Rattle.ga_node.specs.inner.Packed.{unpacked, IsWord};
+ghost use Rattle.ga_node.specs.inner.Packed.{unpacked_place_value, IsPackedWord};
 
 use crate::aside::SuspendedStatus;
 use crate::node::Node;
@@ -13,41 +13,41 @@ const CODES: usize = 249;
 /// The old values of many events, gathered from the newest event on: of each place the one that is written back last. To write
 /// these back leads to the same node as to write all of them back. A contract sees a list of pairs.
 #[derive(Drop)]
-pub struct OverwrittenValues {
+pub struct GatheredOldValues {
     // At the code of each place one more than the word of its pair, 0 where it has none.
     words: [u32; CODES],
 }
 
-impl Model for OverwrittenValues {
+impl Model for GatheredOldValues {
     ghost use Rattle.std.specs.Prelude.{◌≡◌, List, ℕ, length};
-    ghost use Rattle.ga_node.specs.declared.place.Place.{Place};
-    ghost use Rattle.ga_node.specs.inner.Packed.{pairs_of, AreAt};
+    ghost use Rattle.ga_node.specs.declared.place.NodePlace.{NodePlace};
+    ghost use Rattle.ga_node.specs.inner.Packed.{place_values_of_packed_words, ArePackedWordsAtPlaceCodes};
 
-    ghost Value = { List (Place × ℕ) };
+    ghost Value = { List (NodePlace × ℕ) };
 
-    ghost view = { λ g. pairs_of g.words };
+    ghost view = { λ g. place_values_of_packed_words g.words };
 
-    ghost invariant = { λ g. (length g.words ≡ 249) × AreAt 0 g.words };
+    ghost invariant = { λ g. (length g.words ≡ 249) × ArePackedWordsAtPlaceCodes 0 g.words };
 }
 
-impl OverwrittenValues {
+impl GatheredOldValues {
     ghost use Rattle.std.specs.Prelude.{◌≡◌, ◌≤◌, []};
     ghost use Rattle.ga_node.specs.Record.{NodeState};
-    ghost use Rattle.ga_node.specs.State.{with_value, with_suspended_status, with_restored_values, IsPlaceValueInRange, AreValuesInRange, HasClearedStatus};
+    ghost use Rattle.ga_node.specs.State.{node_with_value, node_with_resumed_status, node_with_restored_values, IsPlaceValueInRange, ArePlaceValuesValid, HasClearedStatus};
 
     /// No old values: none is gathered yet.
     pub fn new() -> Self
         ensures { result ≡ [] }
     {
-        OverwrittenValues { words: [0; CODES] }
+        GatheredOldValues { words: [0; CODES] }
     }
 
     // Adds a pair, which is written back last.
     #[inline(always)]
     fn put(&mut self, word: u32)
-        requires { IsWord word }
-        ensures back { (node : NodeState) → with_restored_values node self.new ≡ with_value (with_restored_values node self.old) (unpacked word).0 (unpacked word).1 }
-        ensures fit { AreValuesInRange self.old → IsPlaceValueInRange (unpacked word).0 (unpacked word).1 → AreValuesInRange self.new }
+        requires { IsPackedWord word }
+        ensures back { (node : NodeState) → node_with_restored_values node self.new ≡ node_with_value (node_with_restored_values node self.old) (unpacked_place_value word).0 (unpacked_place_value word).1 }
+        ensures fit { ArePlaceValuesValid self.old → IsPlaceValueInRange (unpacked_place_value word).0 (unpacked_place_value word).1 → ArePlaceValuesValid self.new }
     {
         self.words[(word / 0x1000000) as usize] = word + 1;
     }
@@ -55,8 +55,8 @@ impl OverwrittenValues {
     /// Adds the values that an event overwrote; they are written back after those already gathered.
     #[inline(always)]
     pub fn add(&mut self, saved: &Saved)
-        ensures back { (node : NodeState) → with_restored_values node self.new ≡ with_restored_values (with_restored_values node self.old) saved.now }
-        ensures fit { AreValuesInRange self.old → AreValuesInRange saved.now → AreValuesInRange self.new }
+        ensures back { (node : NodeState) → node_with_restored_values node self.new ≡ node_with_restored_values (node_with_restored_values node self.old) saved.now }
+        ensures fit { ArePlaceValuesValid self.old → ArePlaceValuesValid saved.now → ArePlaceValuesValid self.new }
     {
         let count = saved.len();
         for k in 0..count {
@@ -66,10 +66,10 @@ impl OverwrittenValues {
 
     /// Writes the gathered values back to a node whose wait and stop are set aside.
     pub fn write_back(&self, node: &mut Node, aside: &mut SuspendedStatus)
-        requires fit { AreValuesInRange self.now }
+        requires fit { ArePlaceValuesValid self.now }
         requires cleared { HasClearedStatus node.old }
         requires in_range { aside.old.stop ≤ 3 }
-        ensures back { with_suspended_status node.new aside.new ≡ with_restored_values (with_suspended_status node.old aside.old) self.now }
+        ensures back { node_with_resumed_status node.new aside.new ≡ node_with_restored_values (node_with_resumed_status node.old aside.old) self.now }
         ensures cleared { HasClearedStatus node.new }
         ensures in_range { aside.new.stop ≤ 3 }
     {

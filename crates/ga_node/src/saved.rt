@@ -3,9 +3,9 @@
 ghost use Rattle.std.specs.Prelude.{◌≡◌, ◌+◌, ◌-◌, ◌<◌, ◌≤◌, ◌^◌, ◌*◌, ◌/◌, ◌%◌, length};
 ghost use Rattle.std.specs.Bool.{OnTrue, OnFalse};
 ghost use Rattle.ga_node.specs.State.{IsNodePlace};
-ghost use Rattle.ga_node.specs.inner.Packed.{code_of, place_by, packed, unpacked, free_bits as free_bits_of, spare, with_spare, AreWords, AreKept};
+ghost use Rattle.ga_node.specs.inner.Packed.{code_of_node_place, node_place_of_kind_and_code, packed, unpacked_place_value, free_bits_of_packed_word as free_bits_of, spare, words_with_free_bits, ArePackedWords, AreAtMostSevenPackedWords};
 
-use crate::place::Place;
+use crate::place::NodePlace;
 use arrayvec::ArrayVec;
 use std::fmt;
 use std::marker::Model;
@@ -19,14 +19,14 @@ pub struct Saved {
 
 impl Model for Saved {
     ghost use Rattle.std.specs.Prelude.{List, ℕ, map};
-    ghost use Rattle.ga_node.specs.declared.place.Place.{Place};
-    ghost use Rattle.ga_node.specs.inner.Packed.{unpacked, whole, AreKept};
+    ghost use Rattle.ga_node.specs.declared.place.NodePlace.{NodePlace};
+    ghost use Rattle.ga_node.specs.inner.Packed.{unpacked_place_value, whole, AreAtMostSevenPackedWords};
 
-    ghost Value = { List (Place × ℕ) };
+    ghost Value = { List (NodePlace × ℕ) };
 
-    ghost view = { λ s. map unpacked (whole s.words.items) };
+    ghost view = { λ s. map unpacked_place_value (whole s.words.items) };
 
-    ghost invariant = { λ s. AreKept s.words.items };
+    ghost invariant = { λ s. AreAtMostSevenPackedWords s.words.items };
 }
 
 impl Saved {
@@ -34,7 +34,7 @@ impl Saved {
     ghost use Rattle.std.specs.Bool.{OnTrue, OnFalse};
     ghost use Rattle.std.specs.List.{slice_get};
     ghost use Rattle.ga_node.specs.State.{IsNodePlace};
-    ghost use Rattle.ga_node.specs.inner.Packed.{unpacked, IsWord};
+    ghost use Rattle.ga_node.specs.inner.Packed.{unpacked_place_value, IsPackedWord};
 
     /// A list with no pair.
     #[inline(always)]
@@ -76,7 +76,7 @@ impl Saved {
 
     /// One of the first six places, with its old value.
     #[inline(always)]
-    pub(crate) fn six_at(&self, i: usize) -> (Place, u32)
+    pub(crate) fn six_at(&self, i: usize) -> (NodePlace, u32)
         requires { i < length (take 6 self.now) }
         ensures { slice_get (take 6 self.now) i ≡ Some result }
     {
@@ -86,7 +86,7 @@ impl Saved {
     /// Adds a place and its old value, where there are fewer than six.
     #[tactic(auto, using(crate::proofs::Packing::packed_word, crate::proofs::Packing::few_words, crate::proofs::Packing::kept_push, crate::proofs::Packing::pairs_push))]
     #[inline(always)]
-    pub(crate) fn add(&mut self, place: Place, value: u32)
+    pub(crate) fn add(&mut self, place: NodePlace, value: u32)
         requires place { IsNodePlace place }
         requires in_range { value < 2 ^ 18 }
         requires room { length self.old < 6 }
@@ -98,7 +98,7 @@ impl Saved {
     /// Adds a place and its old value.
     #[tactic(auto, using(crate::proofs::Packing::packed_word, crate::proofs::Packing::count_none, crate::proofs::Packing::full_free, crate::proofs::Packing::kept_spread, crate::proofs::Packing::pairs_spread))]
     #[inline(always)]
-    pub fn push(&mut self, place: Place, value: u32)
+    pub fn push(&mut self, place: NodePlace, value: u32)
         requires place { IsNodePlace place }
         requires in_range { value < 2 ^ 18 }
         requires room { length self.old < 7 }
@@ -113,7 +113,7 @@ impl Saved {
 
     /// One of the places, with its old value.
     #[inline(always)]
-    pub fn at(&self, i: usize) -> (Place, u32)
+    pub fn at(&self, i: usize) -> (NodePlace, u32)
         requires { i < length self.now }
         ensures { slice_get self.now i ≡ Some result }
     {
@@ -124,8 +124,8 @@ impl Saved {
     #[inline(always)]
     pub(crate) fn word(&self, i: usize) -> u32
         requires { i < length self.now }
-        ensures pair { slice_get self.now i ≡ Some (unpacked result) }
-        ensures word { IsWord result }
+        ensures pair { slice_get self.now i ≡ Some (unpacked_place_value result) }
+        ensures word { IsPackedWord result }
     {
         if i < self.words.len() {
             return self.words[i];
@@ -150,31 +150,31 @@ impl fmt::Debug for Saved {
 
 /// The word of a place and a value: a number for each place, six free bits, and the value.
 #[inline(always)]
-fn pack(at: Place, value: u32) -> u32
+fn pack(at: NodePlace, value: u32) -> u32
     requires place { IsNodePlace at }
     requires in_range { value < 2 ^ 18 }
     ensures value { result ≡ packed at value }
     ensures within { result < 249 * 2 ^ 24 }
 {
     let code = match at {
-        Place::T => 0,
-        Place::S => 8,
-        Place::DataPointer => 16,
-        Place::R => 24,
-        Place::ReturnPointer => 32,
-        Place::A => 40,
-        Place::B => 48,
-        Place::P => 56,
-        Place::Ram(cell) => 64 + cell as u32,
-        Place::Rom(cell) => 128 + cell as u32,
-        Place::DataCell(cell) => 192 + cell as u32,
-        Place::ReturnCell(cell) => 200 + cell as u32,
-        Place::I => 208,
-        Place::Slot => 216,
-        Place::Io => 224,
-        Place::Carry => 232,
-        Place::Wait => 240,
-        Place::Stop => 248,
+        NodePlace::T => 0,
+        NodePlace::S => 8,
+        NodePlace::DataPointer => 16,
+        NodePlace::R => 24,
+        NodePlace::ReturnPointer => 32,
+        NodePlace::A => 40,
+        NodePlace::B => 48,
+        NodePlace::P => 56,
+        NodePlace::Ram(cell) => 64 + cell as u32,
+        NodePlace::Rom(cell) => 128 + cell as u32,
+        NodePlace::DataCell(cell) => 192 + cell as u32,
+        NodePlace::ReturnCell(cell) => 200 + cell as u32,
+        NodePlace::I => 208,
+        NodePlace::Slot => 216,
+        NodePlace::Io => 224,
+        NodePlace::Carry => 232,
+        NodePlace::Wait => 240,
+        NodePlace::Stop => 248,
     };
     code * 0x1000000 + value
 }
@@ -190,49 +190,49 @@ fn cell(word: u32) -> u8
 /// The place of a word. Each of its 32 kinds has an arm, so that one jump leads there, and a cell is taken out only where
 /// the place has one.
 #[inline(always)]
-fn place(word: u32) -> Place
-    ensures { result ≡ place_by (word / 2 ^ 27) (word / 2 ^ 24) }
+fn place(word: u32) -> NodePlace
+    ensures { result ≡ node_place_of_kind_and_code (word / 2 ^ 27) (word / 2 ^ 24) }
 {
     match word / 0x8000000 {
-        0 => Place::T,
-        1 => Place::S,
-        2 => Place::DataPointer,
-        3 => Place::R,
-        4 => Place::ReturnPointer,
-        5 => Place::A,
-        6 => Place::B,
-        7 => Place::P,
-        8 => Place::Ram(cell(word)),
-        9 => Place::Ram(cell(word)),
-        10 => Place::Ram(cell(word)),
-        11 => Place::Ram(cell(word)),
-        12 => Place::Ram(cell(word)),
-        13 => Place::Ram(cell(word)),
-        14 => Place::Ram(cell(word)),
-        15 => Place::Ram(cell(word)),
-        16 => Place::Rom(cell(word)),
-        17 => Place::Rom(cell(word)),
-        18 => Place::Rom(cell(word)),
-        19 => Place::Rom(cell(word)),
-        20 => Place::Rom(cell(word)),
-        21 => Place::Rom(cell(word)),
-        22 => Place::Rom(cell(word)),
-        23 => Place::Rom(cell(word)),
-        24 => Place::DataCell((word / 0x1000000 % 8) as u8),
-        25 => Place::ReturnCell((word / 0x1000000 % 8) as u8),
-        26 => Place::I,
-        27 => Place::Slot,
-        28 => Place::Io,
-        29 => Place::Carry,
-        30 => Place::Wait,
-        _ => Place::Stop,
+        0 => NodePlace::T,
+        1 => NodePlace::S,
+        2 => NodePlace::DataPointer,
+        3 => NodePlace::R,
+        4 => NodePlace::ReturnPointer,
+        5 => NodePlace::A,
+        6 => NodePlace::B,
+        7 => NodePlace::P,
+        8 => NodePlace::Ram(cell(word)),
+        9 => NodePlace::Ram(cell(word)),
+        10 => NodePlace::Ram(cell(word)),
+        11 => NodePlace::Ram(cell(word)),
+        12 => NodePlace::Ram(cell(word)),
+        13 => NodePlace::Ram(cell(word)),
+        14 => NodePlace::Ram(cell(word)),
+        15 => NodePlace::Ram(cell(word)),
+        16 => NodePlace::Rom(cell(word)),
+        17 => NodePlace::Rom(cell(word)),
+        18 => NodePlace::Rom(cell(word)),
+        19 => NodePlace::Rom(cell(word)),
+        20 => NodePlace::Rom(cell(word)),
+        21 => NodePlace::Rom(cell(word)),
+        22 => NodePlace::Rom(cell(word)),
+        23 => NodePlace::Rom(cell(word)),
+        24 => NodePlace::DataCell((word / 0x1000000 % 8) as u8),
+        25 => NodePlace::ReturnCell((word / 0x1000000 % 8) as u8),
+        26 => NodePlace::I,
+        27 => NodePlace::Slot,
+        28 => NodePlace::Io,
+        29 => NodePlace::Carry,
+        30 => NodePlace::Wait,
+        _ => NodePlace::Stop,
     }
 }
 
 /// The place and the value of a word.
 #[inline(always)]
-pub(crate) fn unpack(word: u32) -> (Place, u32)
-    ensures { result ≡ unpacked word }
+pub(crate) fn unpack(word: u32) -> (NodePlace, u32)
+    ensures { result ≡ unpacked_place_value word }
 {
     (place(word), word % 0x40000)
 }
@@ -241,8 +241,8 @@ pub(crate) fn unpack(word: u32) -> (Place, u32)
 #[tactic(auto, using(std::proofs::Common::append_assoc, std::proofs::lemmas::List::drop_all, crate::proofs::Packing::with_spare_past, crate::proofs::Packing::words_at))]
 #[inline(never)]
 fn spread(words: &ArrayVec<u32, 6>, word: u32) -> ArrayVec<u32, 6>
-    requires { AreWords words.now.items }
-    ensures { result.items ≡ with_spare words.now.items (2 ^ 32 + word) }
+    requires { ArePackedWords words.now.items }
+    ensures { result.items ≡ words_with_free_bits words.now.items (2 ^ 32 + word) }
 {
     let mut rest = 0x100000000 + word as u64;
     let mut spread = ArrayVec::new();

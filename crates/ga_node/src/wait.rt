@@ -37,10 +37,10 @@ impl Wait {
             return Wait::Nothing;
         }
         if code < 32 {
-            return Wait::Fetch(PortSet::of((code - 16) as u8));
+            return Wait::Fetch(PortSet::from_bits((code - 16) as u8));
         }
         if code < 48 {
-            return Wait::Read(PortSet::of((code - 32) as u8));
+            return Wait::Read(PortSet::from_bits((code - 32) as u8));
         }
         Wait::Write(match code - 48 {
             8 => Side::Right,
@@ -60,7 +60,7 @@ impl Wait {
             Wait::Nothing => 0,
             Wait::Fetch(sides) => 16 + u32::from(sides.get()),
             Wait::Read(sides) => 32 + u32::from(sides.get()),
-            Wait::Write(side) => 48 + u32::from(side.bit()),
+            Wait::Write(side) => 48 + u32::from(side.bit_in_set()),
         }
     }
 }

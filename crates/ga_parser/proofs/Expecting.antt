@@ -5,9 +5,9 @@ use Rattle.std.proofs.lemmas.Bool.{cond-true, cond-false, cases_Bool, lt-ltb, le
 use Rattle.std.proofs.lemmas.List.{drop_all, take_all}
 use Rattle.ga_parser.specs.declared.scan.Token.{Token}
 use Rattle.ga_parser.specs.Constants.{ConstantAndLabelNames, resolved_word_text}
-use Rattle.ga_parser.specs.Expectations.{NodeGroup, group_after_word, node_group_before_line, nodes_before_line, resolved_word_texts, expectation_text, ExpectationContent, expectation_of_tokens, expectations_of_lines}
-use Rattle.ga_parser.specs.Saying.{parts_ended_by, source_lines, stripped_source_line, PlacedToken, token_contents, all_tokens_of_line, next_line_number}
-use Rattle.ga_parser.specs.inner.Expecting.{words_from, spaced_token}
+use Rattle.ga_parser.specs.Expectations.{NodeGroup, node_group_after_word, node_group_before_line, nodes_before_line, resolved_word_texts, expectation_text, ExpectationContent, expectation_of_tokens, expectations_of_lines}
+use Rattle.ga_parser.specs.Saying.{parts_ended_by_bytes, source_lines, stripped_source_line, PlacedToken, token_contents, tokens_of_line_with_expectation, next_line_number}
+use Rattle.ga_parser.specs.inner.Expecting.{words_from, space_and_resolved_word}
 use Rattle.ga_parser.specs.inner.Placing.{placed, placed_all}
 use Rattle.ga_parser.proofs.Placing.{first_placed}
 
@@ -20,17 +20,17 @@ later_group line later group [] within = refl
 later_group line later group (one ∷ rest) within = elim (cases_Bool (ltb one.said.line line)) [
   | inl before ↦
       let is : one.said.line < line = ltb-true one.said.line line before in
-      rw (before, lt-ltb one.said.line later (omega arith)) (later_group line later (group_after_word group one) rest within)
+      rw (before, lt-ltb one.said.line later (omega arith)) (later_group line later (node_group_after_word group one) rest within)
   | inr from ↦ rw from refl
 ]
 
 -- a word before the line
-pub one_before : (line : ℕ) (group after : NodeGroup) (tokens : List Token) (k : ℕ) (d : Token) → k < length tokens → (placed (get_or tokens k d)).said.line < line → after ≡ group_after_word group (placed (get_or tokens k d))
+pub one_before : (line : ℕ) (group after : NodeGroup) (tokens : List Token) (k : ℕ) (d : Token) → k < length tokens → (placed (get_or tokens k d)).said.line < line → after ≡ node_group_after_word group (placed (get_or tokens k d))
     → node_group_before_line line group (placed_all (drop k tokens)) ≡ node_group_before_line line after (placed_all (drop (k + 1) tokens))
 unfolding node_group_before_line
 one_before line group after tokens k d within before taken =
     ap (node_group_before_line line group) (first_placed tokens k d within)
-    ∙ (cond-true (ltb (get_or tokens k d).line line) (node_group_before_line line (group_after_word group (placed (get_or tokens k d))) (placed_all (drop (k + 1) tokens))) group (lt-ltb (get_or tokens k d).line line before)
+    ∙ (cond-true (ltb (get_or tokens k d).line line) (node_group_before_line line (node_group_after_word group (placed (get_or tokens k d))) (placed_all (drop (k + 1) tokens))) group (lt-ltb (get_or tokens k d).line line before)
     ∙ ap (λ (g : NodeGroup). node_group_before_line line g (placed_all (drop (k + 1) tokens))) (sym taken))
 
 pub one_left : (line : ℕ) (tokens : List Token) (k : ℕ) (d : Token) → k < length tokens → (placed (get_or tokens k d)).said.line < line → words_from line (placed_all (drop k tokens)) ≡ words_from line (placed_all (drop (k + 1) tokens))
@@ -44,7 +44,7 @@ pub none_before : (line : ℕ) (group : NodeGroup) (tokens : List Token) (k : �
 unfolding node_group_before_line
 none_before line group tokens k d within from =
     ap (node_group_before_line line group) (first_placed tokens k d within)
-    ∙ cond-false (ltb (get_or tokens k d).line line) (node_group_before_line line (group_after_word group (placed (get_or tokens k d))) (placed_all (drop (k + 1) tokens))) group (le-ltb (get_or tokens k d).line line from)
+    ∙ cond-false (ltb (get_or tokens k d).line line) (node_group_before_line line (node_group_after_word group (placed (get_or tokens k d))) (placed_all (drop (k + 1) tokens))) group (le-ltb (get_or tokens k d).line line from)
 
 pub all_from : (line : ℕ) (tokens : List Token) (k : ℕ) (d : Token) → k < length tokens → line ≤ (placed (get_or tokens k d)).said.line → words_from line (placed_all (drop k tokens)) ≡ placed_all (drop k tokens)
 unfolding words_from
@@ -68,9 +68,9 @@ all_dropped tokens = ap placed_all (drop_all (length tokens) tokens (omega arith
 -- ---- the text of an expectation
 
 -- words after blanks are their texts after blanks
-pub spaced_same : (known : ConstantAndLabelNames) (tokens : List Token) → flat_map (spaced_token known) tokens ≡ flat_map (λ (next : List ℕ). 32 ∷ next) (resolved_word_texts known (token_contents tokens))
+pub spaced_same : (known : ConstantAndLabelNames) (tokens : List Token) → flat_map (space_and_resolved_word known) tokens ≡ flat_map (λ (next : List ℕ). 32 ∷ next) (resolved_word_texts known (token_contents tokens))
 spaced_same known [] = refl
-spaced_same known (token ∷ tokens) = ap (λ (l : List ℕ). spaced_token known token ++ l) (spaced_same known tokens)
+spaced_same known (token ∷ tokens) = ap (λ (l : List ℕ). space_and_resolved_word known token ++ l) (spaced_same known tokens)
 
 -- `expect` alone has no text
 pub short_text : (known : ConstantAndLabelNames) (tokens : List Token) → length tokens < 2 → expectation_text known (token_contents tokens) ≡ []
@@ -79,7 +79,7 @@ short_text known (token ∷ []) short = refl
 short_text known (token ∷ first ∷ rest) short = absurd (omega arith)
 
 -- the first word after it, and each further one after a blank
-pub long_text : (known : ConstantAndLabelNames) (tokens : List Token) (d : Token) → 2 ≤ length tokens → expectation_text known (token_contents tokens) ≡ resolved_word_text known (get_or tokens 1 d).text.now ++ flat_map (spaced_token known) (drop 2 tokens)
+pub long_text : (known : ConstantAndLabelNames) (tokens : List Token) (d : Token) → 2 ≤ length tokens → expectation_text known (token_contents tokens) ≡ resolved_word_text known (get_or tokens 1 d).text.now ++ flat_map (space_and_resolved_word known) (drop 2 tokens)
 long_text known [] d long = absurd (omega arith)
 long_text known (token ∷ []) d long = absurd (omega arith)
 long_text known (token ∷ first ∷ rest) d long = ap (λ (l : List ℕ). resolved_word_text known first.text.now ++ l) (sym (spaced_same known rest))
@@ -92,23 +92,23 @@ further_words tokens = take_all (length tokens - 2) (drop 2 tokens) (omega (arit
 
 module _ (known : ConstantAndLabelNames) (words : List PlacedToken) (line : ℕ) (rest whole first behind : List ℕ) (e : source_lines rest ≡ whole ∷ source_lines behind) (without : first ≡ stripped_source_line line whole) where
   expected_here : expectations_of_lines known words line (source_lines rest)
-      ≡ (if bytes_eq first (codes "end") then [] else expectation_of_tokens known (nodes_before_line line words) line (all_tokens_of_line line first) ++ expectations_of_lines known words (next_line_number line) (source_lines behind))
+      ≡ (if bytes_eq first (codes "end") then [] else expectation_of_tokens known (nodes_before_line line words) line (tokens_of_line_with_expectation line first) ++ expectations_of_lines known words (next_line_number line) (source_lines behind))
   unfolding expectations_of_lines
   expected_here =
       ap (expectations_of_lines known words line) e
-      ∙ ap (λ (text : List ℕ). if bytes_eq text (codes "end") then [] else expectation_of_tokens known (nodes_before_line line words) line (all_tokens_of_line line text) ++ expectations_of_lines known words (next_line_number line) (source_lines behind)) (sym without)
+      ∙ ap (λ (text : List ℕ). if bytes_eq text (codes "end") then [] else expectation_of_tokens known (nodes_before_line line words) line (tokens_of_line_with_expectation line text) ++ expectations_of_lines known words (next_line_number line) (source_lines behind)) (sym without)
 
   -- a line `end`
   pub expected_end : bytes_eq first (codes "end") ≡ true → expectations_of_lines known words line (source_lines rest) ≡ []
-  expected_end is = expected_here ∙ cond-true (bytes_eq first (codes "end")) [] (expectation_of_tokens known (nodes_before_line line words) line (all_tokens_of_line line first) ++ expectations_of_lines known words (next_line_number line) (source_lines behind)) is
+  expected_end is = expected_here ∙ cond-true (bytes_eq first (codes "end")) [] (expectation_of_tokens known (nodes_before_line line words) line (tokens_of_line_with_expectation line first) ++ expectations_of_lines known words (next_line_number line) (source_lines behind)) is
 
   -- any other line
-  pub expected_other : bytes_eq first (codes "end") ≡ false → expectations_of_lines known words line (source_lines rest) ≡ expectation_of_tokens known (nodes_before_line line words) line (all_tokens_of_line line first) ++ expectations_of_lines known words (next_line_number line) (source_lines behind)
-  expected_other other = expected_here ∙ cond-false (bytes_eq first (codes "end")) [] (expectation_of_tokens known (nodes_before_line line words) line (all_tokens_of_line line first) ++ expectations_of_lines known words (next_line_number line) (source_lines behind)) other
+  pub expected_other : bytes_eq first (codes "end") ≡ false → expectations_of_lines known words line (source_lines rest) ≡ expectation_of_tokens known (nodes_before_line line words) line (tokens_of_line_with_expectation line first) ++ expectations_of_lines known words (next_line_number line) (source_lines behind)
+  expected_other other = expected_here ∙ cond-false (bytes_eq first (codes "end")) [] (expectation_of_tokens known (nodes_before_line line words) line (tokens_of_line_with_expectation line first) ++ expectations_of_lines known words (next_line_number line) (source_lines behind)) other
 
 -- no line is left
 pub expected_none : (known : ConstantAndLabelNames) (words : List PlacedToken) (line : ℕ) (rest : List ℕ) → length rest ≡ 0 → expectations_of_lines known words line (source_lines rest) ≡ []
-unfolding parts_ended_by expectations_of_lines
+unfolding parts_ended_by_bytes expectations_of_lines
 expected_none known words line [] none = refl
 expected_none known words line (b ∷ rest) none = absurd (omega arith)
 

@@ -3,9 +3,9 @@ use Rattle.std.proofs.Common.{◌≡◌, ◌∙◌, ℕ, zero, suc, ◌+◌, ◌
 use Rattle.std.proofs.lemmas.Bool.{cond-true, cond-false}
 use Rattle.std.proofs.lemmas.List.{drop_all, take_all}
 use Rattle.ga_parser.specs.declared.scan.Token.{Token}
-use Rattle.ga_parser.specs.Saying.{TokenContent, PlacedToken, token_content, token_contents, is_word, tokens_until_fault}
+use Rattle.ga_parser.specs.Saying.{TokenContent, PlacedToken, token_content, token_contents, is_word_token, tokens_through_first_fault}
 use Rattle.ga_parser.specs.inner.Placing.{placed, placed_all}
-use Rattle.ga_parser.specs.Groups.{NodeNaming, begins_node, is_further_node_name, naming_after_word, words_after_names, words_before_next_node, words_before_name, expand_node_groups}
+use Rattle.ga_parser.specs.Groups.{NodeNamingProgress, begins_node, is_further_node_name, node_naming_after_word, words_after_names, words_before_next_node, words_inserted_before_name, expand_node_groups}
 use Rattle.ga_parser.proofs.Placing.{first_placed, front_placed}
 use Rattle.ga_parser.proofs.Asking.{first_left}
 
@@ -44,23 +44,23 @@ body_ends tokens k d all within is so_far =
 
 -- ---- all words
 
-pub one_grouped : (whole : Bool) (begun after : NodeNaming) (all before now : List PlacedToken) (tokens left : List Token) (k : ℕ) (d : Token) → k < length tokens → left ≡ drop (k + 1) tokens
-    → now ≡ before ++ words_before_name whole begun (placed (get_or tokens k d)) (placed_all left) → after ≡ naming_after_word begun (placed (get_or tokens k d))
+pub one_grouped : (whole : Bool) (begun after : NodeNamingProgress) (all before now : List PlacedToken) (tokens left : List Token) (k : ℕ) (d : Token) → k < length tokens → left ≡ drop (k + 1) tokens
+    → now ≡ before ++ words_inserted_before_name whole begun (placed (get_or tokens k d)) (placed_all left) → after ≡ node_naming_after_word begun (placed (get_or tokens k d))
     → before ++ expand_node_groups whole begun (placed_all (drop k tokens)) ≡ all → (now ++ placed (get_or tokens k d) ∷ []) ++ expand_node_groups whole after (placed_all (drop (k + 1) tokens)) ≡ all
 unfolding expand_node_groups
 one_grouped whole begun after all before now tokens left k d within behind pushed_left is so_far =
-    let pushed : now ≡ before ++ words_before_name whole begun (placed (get_or tokens k d)) (placed_all (drop (k + 1) tokens)) =
-    pushed_left ∙ ap (λ (l : List Token). before ++ words_before_name whole begun (placed (get_or tokens k d)) (placed_all l)) behind in
+    let pushed : now ≡ before ++ words_inserted_before_name whole begun (placed (get_or tokens k d)) (placed_all (drop (k + 1) tokens)) =
+    pushed_left ∙ ap (λ (l : List Token). before ++ words_inserted_before_name whole begun (placed (get_or tokens k d)) (placed_all l)) behind in
     let one = placed (get_or tokens k d) in
     let rest = placed_all (drop (k + 1) tokens) in
-    let first = words_before_name whole begun one rest in
+    let first = words_inserted_before_name whole begun one rest in
     append_assoc now (one ∷ []) (expand_node_groups whole after rest)
     ∙ (ap (λ (l : List PlacedToken). l ++ one ∷ expand_node_groups whole after rest) pushed
     ∙ (append_assoc before first (one ∷ expand_node_groups whole after rest)
-    ∙ (ap (λ (b : NodeNaming). before ++ (first ++ one ∷ expand_node_groups whole b rest)) is
+    ∙ (ap (λ (b : NodeNamingProgress). before ++ (first ++ one ∷ expand_node_groups whole b rest)) is
     ∙ (ap (λ (l : List PlacedToken). before ++ l) (sym (ap (expand_node_groups whole begun) (first_placed tokens k d within))) ∙ so_far))))
 
-pub none_grouped : (whole : Bool) (begun : NodeNaming) (tokens : List Token) (all before : List PlacedToken) → tokens ≡ [] → before ++ expand_node_groups whole begun (placed_all tokens) ≡ all → before ≡ all
+pub none_grouped : (whole : Bool) (begun : NodeNamingProgress) (tokens : List Token) (all before : List PlacedToken) → tokens ≡ [] → before ++ expand_node_groups whole begun (placed_all tokens) ≡ all → before ≡ all
 unfolding expand_node_groups
 none_grouped whole begun tokens all before none so_far =
     sym (append-nil before) ∙ (ap (λ (l : List PlacedToken). before ++ l) (sym (ap (λ (t : List Token). expand_node_groups whole begun (placed_all t)) none)) ∙ so_far)
@@ -75,33 +75,33 @@ front_said (token ∷ tokens) (suc k) d within =
     ap (λ (j : ℕ). token_contents (take j (token ∷ tokens))) one
     ∙ ap (λ (rest : List TokenContent). token_content token ∷ rest) (front_said tokens k d (omega arith))
 
-pub one_whole : (tokens : List Token) (k : ℕ) (d : Token) (all : List TokenContent) → k < length tokens → is_word (token_content (get_or tokens k d)) ≡ true → token_contents (take k tokens) ++ tokens_until_fault (token_contents (drop k tokens)) ≡ all
-    → token_contents (take (k + 1) tokens) ++ tokens_until_fault (token_contents (drop (k + 1) tokens)) ≡ all
-unfolding tokens_until_fault
+pub one_whole : (tokens : List Token) (k : ℕ) (d : Token) (all : List TokenContent) → k < length tokens → is_word_token (token_content (get_or tokens k d)) ≡ true → token_contents (take k tokens) ++ tokens_through_first_fault (token_contents (drop k tokens)) ≡ all
+    → token_contents (take (k + 1) tokens) ++ tokens_through_first_fault (token_contents (drop (k + 1) tokens)) ≡ all
+unfolding tokens_through_first_fault
 one_whole tokens k d all within is so_far =
     let one = token_content (get_or tokens k d) in
     let rest = token_contents (drop (k + 1) tokens) in
-    ap (λ (l : List TokenContent). l ++ tokens_until_fault rest) (front_said tokens k d within)
-    ∙ (append_assoc (token_contents (take k tokens)) (one ∷ []) (tokens_until_fault rest)
-    ∙ (ap (λ (l : List TokenContent). token_contents (take k tokens) ++ one ∷ l) (sym (cond-true (is_word one) (tokens_until_fault rest) [] is))
-    ∙ (ap (λ (l : List TokenContent). token_contents (take k tokens) ++ tokens_until_fault l) (sym (first_left tokens k d within)) ∙ so_far)))
+    ap (λ (l : List TokenContent). l ++ tokens_through_first_fault rest) (front_said tokens k d within)
+    ∙ (append_assoc (token_contents (take k tokens)) (one ∷ []) (tokens_through_first_fault rest)
+    ∙ (ap (λ (l : List TokenContent). token_contents (take k tokens) ++ one ∷ l) (sym (cond-true (is_word_token one) (tokens_through_first_fault rest) [] is))
+    ∙ (ap (λ (l : List TokenContent). token_contents (take k tokens) ++ tokens_through_first_fault l) (sym (first_left tokens k d within)) ∙ so_far)))
 
-pub one_faulty : (tokens : List Token) (k : ℕ) (d : Token) (all : List TokenContent) → k < length tokens → is_word (token_content (get_or tokens k d)) ≡ false → token_contents (take k tokens) ++ tokens_until_fault (token_contents (drop k tokens)) ≡ all
+pub one_faulty : (tokens : List Token) (k : ℕ) (d : Token) (all : List TokenContent) → k < length tokens → is_word_token (token_content (get_or tokens k d)) ≡ false → token_contents (take k tokens) ++ tokens_through_first_fault (token_contents (drop k tokens)) ≡ all
     → token_contents (take (k + 1) tokens) ≡ all
-unfolding tokens_until_fault
+unfolding tokens_through_first_fault
 one_faulty tokens k d all within is so_far =
     let one = token_content (get_or tokens k d) in
     let rest = token_contents (drop (k + 1) tokens) in
     front_said tokens k d within
-    ∙ (ap (λ (l : List TokenContent). token_contents (take k tokens) ++ one ∷ l) (sym (cond-false (is_word one) (tokens_until_fault rest) [] is))
-    ∙ (ap (λ (l : List TokenContent). token_contents (take k tokens) ++ tokens_until_fault l) (sym (first_left tokens k d within)) ∙ so_far))
+    ∙ (ap (λ (l : List TokenContent). token_contents (take k tokens) ++ one ∷ l) (sym (cond-false (is_word_token one) (tokens_through_first_fault rest) [] is))
+    ∙ (ap (λ (l : List TokenContent). token_contents (take k tokens) ++ tokens_through_first_fault l) (sym (first_left tokens k d within)) ∙ so_far))
 
-pub whole_end : (tokens : List Token) (k : ℕ) (all : List TokenContent) → length tokens ≤ k → token_contents (take k tokens) ++ tokens_until_fault (token_contents (drop k tokens)) ≡ all → token_contents tokens ≡ all
-unfolding tokens_until_fault
+pub whole_end : (tokens : List Token) (k : ℕ) (all : List TokenContent) → length tokens ≤ k → token_contents (take k tokens) ++ tokens_through_first_fault (token_contents (drop k tokens)) ≡ all → token_contents tokens ≡ all
+unfolding tokens_through_first_fault
 whole_end tokens k all past so_far =
     sym (ap token_contents (take_all k tokens past))
     ∙ (sym (append-nil (token_contents (take k tokens)))
-    ∙ (ap (λ (t : List Token). token_contents (take k tokens) ++ tokens_until_fault (token_contents t)) (sym (drop_all k tokens past)) ∙ so_far))
+    ∙ (ap (λ (t : List Token). token_contents (take k tokens) ++ tokens_through_first_fault (token_contents t)) (sym (drop_all k tokens past)) ∙ so_far))
 
 pub inside_end : (tokens : List Token) (k : ℕ) (all : List PlacedToken) → length tokens ≤ k → placed_all (take k tokens) ++ words_before_next_node (placed_all (drop k tokens)) ≡ all → placed_all tokens ≡ all
 unfolding words_before_next_node

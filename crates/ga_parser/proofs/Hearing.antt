@@ -10,15 +10,15 @@ use Rattle.ga_parser.specs.declared.item.AssemblyItem.TheVariants.{Cell}
 use Rattle.ga_parser.specs.declared.vocabulary.Directive.{Directive}
 use Rattle.ga_parser.specs.declared.vocabulary.Directive.TheVariants.{Address as GoesOn, Register as Gives}
 use Rattle.ga_parser.specs.declared.vocabulary.Register.TheVariants.{P, A, B}
-use Rattle.ga_parser.specs.declared.item.AssemblyRequest.TheVariants.{Put, Go}
+use Rattle.ga_parser.specs.declared.item.AssemblyRequest.TheVariants.{PlaceItem, GoToAddress}
 use Rattle.ga_parser.specs.declared.draft.Expect.{Expect}
 use Rattle.ga_parser.specs.declared.draft.Expect.TheVariants.{Word, Address, Name, Register, Nothing}
-use Rattle.ga_parser.specs.Asking.{with_carry_bit}
+use Rattle.ga_parser.specs.Asking.{address_with_carry_bit}
 use Rattle.ga_ports.specs.Steps.{◌>>=◌}
-use Rattle.ga_ports.specs.Address.{parse_side_set, side_value}
-use Rattle.ga_parser.specs.Vocabulary.{find_in_table, number_spelled_by_word, directive_words, has_prefix, unsigned_number, checked_word, checked_negative_word, signed_number, port_set_address, named_port_set, named_ports, named_port_address}
-use Rattle.ga_parser.specs.Plain.{Plain, with_plain_word_pair, with_plain_request, and_then_number, some_value_if, is_cell_address, plain_requests_from}
-use Rattle.ga_parser.specs.inner.Drafting.{Heard, end_of, may_give, next_of, parse_one_word, hear_all}
+use Rattle.ga_ports.specs.Address.{parse_side_set, side_letter_value}
+use Rattle.ga_parser.specs.Vocabulary.{find_in_table, number_spelled_by_word, directives_by_name, has_prefix, unsigned_number, number_in_word_range, negative_number_in_range, signed_number, port_set_address, named_port_set, named_port_addresses, named_port_address}
+use Rattle.ga_parser.specs.Plain.{PlainRequests, plain_requests_with_pair, plain_requests_with_added, apply_to_number_in_range, some_value_if, is_cell_address, plain_requests_from}
+use Rattle.ga_parser.specs.inner.Drafting.{PlainParseState, requests_at_end_of_words, can_give_register_value, expect_after_directive, parse_one_word, hear_all}
 use Rattle.std.specs.Option.{option_map_or, option_or}
 use Rattle.std.proofs.Math.Nat.{mod-lt}
 use Rattle.std.proofs.lemmas.Nat.{xor_lt}
@@ -44,8 +44,8 @@ if_err_weaker (Err e) Before After weaker h = weaker e h
 pub same_text : (text name : List ℕ) → bytes_eq text name ≡ true → text ≡ name
 same_text text name same = (bytes_eq-Decides text name).0 same
 
-named : (text name : List ℕ) (d : Directive) → find_in_table directive_words name ≡ Some d → bytes_eq text name ≡ true → find_in_table directive_words text ≡ Some d
-named text name d is same = subst (λ t. find_in_table directive_words t ≡ Some d) (sym (same_text text name same)) is
+named : (text name : List ℕ) (d : Directive) → find_in_table directives_by_name name ≡ Some d → bytes_eq text name ≡ true → find_in_table directives_by_name text ≡ Some d
+named text name d is same = subst (λ t. find_in_table directives_by_name t ≡ Some d) (sym (same_text text name same)) is
 
 -- ---- numbers
 
@@ -81,8 +81,8 @@ pub same_number : (n m : ℕ) (number : NumberIn) → Of n ≡ number → number
 same_number n m number is asked = of_same n m (is ∙ asked)
 
 -- an address of a cell, without bit 9, is itself
-pub not_carried : (n : ℕ) (is_set : Bool) → is_set ≡ false → n < 512 → with_carry_bit is_set n ≡ n
-not_carried n is_set e small = ap (λ (b : Bool). with_carry_bit b n) e ∙ omega arith
+pub not_carried : (n : ℕ) (is_set : Bool) → is_set ≡ false → n < 512 → address_with_carry_bit is_set n ≡ n
+not_carried n is_set e small = ap (λ (b : Bool). address_with_carry_bit b n) e ∙ omega arith
 
 -- where a number asks for something, there is one
 pub record IsNumbered {X : Type 0} (number : NumberIn) (asks : ℕ → Option X) (x : X) : Type 0 where
@@ -93,7 +93,7 @@ pub record IsNumbered {X : Type 0} (number : NumberIn) (asks : ℕ → Option X)
 pub some_same : {X : Type 0} (x y : X) → Some x ≡ Some y → x ≡ y
 some_same x y e = ap (λ o. option_or_default x o) e
 
-pub numbered : {X : Type 0} (number : NumberIn) (asks : ℕ → Option X) (x : X) → and_then_number number asks ≡ Some x → IsNumbered number asks x
+pub numbered : {X : Type 0} (number : NumberIn) (asks : ℕ → Option X) (x : X) → apply_to_number_in_range number asks ≡ Some x → IsNumbered number asks x
 numbered (Of n) asks x e = record { n = n; is = refl; gives = e }
 numbered OutOfRange asks x e = absurd (no_some e)
 numbered NoNumber asks x e = absurd (no_some e)
@@ -106,47 +106,47 @@ allowed false x y e = absurd (no_some e)
 -- ---- plain words are heard as they are read in pairs
 
 -- a number, where the rest is heard as it is read
-number_pair : (number : NumberIn) (f : ℕ → Option Plain) (g : ℕ → Option Heard) (read : Plain → Option Plain) (k : Heard → Option Plain) (all : Plain) → ((n : ℕ) → (f n >>= read) ≡ Some all → (g n >>= k) ≡ Some all) → (and_then_number number f >>= read) ≡ Some all → (and_then_number number g >>= k) ≡ Some all
+number_pair : (number : NumberIn) (f : ℕ → Option PlainRequests) (g : ℕ → Option PlainParseState) (read : PlainRequests → Option PlainRequests) (k : PlainParseState → Option PlainRequests) (all : PlainRequests) → ((n : ℕ) → (f n >>= read) ≡ Some all → (g n >>= k) ≡ Some all) → (apply_to_number_in_range number f >>= read) ≡ Some all → (apply_to_number_in_range number g >>= k) ≡ Some all
 number_pair (Of n) f g read k all goes is = goes n is
 number_pair OutOfRange f g read k all goes is = absurd (no_some is)
 number_pair NoNumber f g read k all goes is = absurd (no_some is)
 
 -- the same where a test allows it
-allowed_pair : (b : Bool) (plain : Plain) (heard : Heard) (read : Plain → Option Plain) (k : Heard → Option Plain) (all : Plain) → (read plain ≡ Some all → k heard ≡ Some all) → (some_value_if b plain >>= read) ≡ Some all → (some_value_if b heard >>= k) ≡ Some all
+allowed_pair : (b : Bool) (plain : PlainRequests) (heard : PlainParseState) (read : PlainRequests → Option PlainRequests) (k : PlainParseState → Option PlainRequests) (all : PlainRequests) → (read plain ≡ Some all → k heard ≡ Some all) → (some_value_if b plain >>= read) ≡ Some all → (some_value_if b heard >>= k) ≡ Some all
 allowed_pair true plain heard read k all goes is = goes is
 allowed_pair false plain heard read k all goes is = absurd (no_some is)
 
-module _ (plain all : Plain) (first second : List ℕ) (words : List (List ℕ)) (again : (more : Plain) → plain_requests_from more words ≡ Some all → hear_all (record { expect = Word; plain = more }) words ≡ Some all) where
-  comma_pair : bytes_eq second (codes ",") ≡ true → (with_plain_word_pair plain first second >>= (λ more. plain_requests_from more words)) ≡ Some all → hear_all (record { expect = Word; plain = plain }) (first ∷ second ∷ words) ≡ Some all
+module _ (plain all : PlainRequests) (first second : List ℕ) (words : List (List ℕ)) (again : (more : PlainRequests) → plain_requests_from more words ≡ Some all → hear_all (record { expect = Word; plain = more }) words ≡ Some all) where
+  comma_pair : bytes_eq second (codes ",") ≡ true → (plain_requests_with_pair plain first second >>= (λ more. plain_requests_from more words)) ≡ Some all → hear_all (record { expect = Word; plain = plain }) (first ∷ second ∷ words) ≡ Some all
   unfolding hear_all
   comma_pair comma is =
-      ap (λ (o : Option Heard). o >>= (λ now. hear_all now (second ∷ words))) (cond-true (bytes_eq second (codes ",")) _ _ comma)
-      ∙ number_pair (number_spelled_by_word first) (λ n. Some (with_plain_request plain (Put (Cell (Number n))))) (λ n. Some (record { expect = Nothing; plain = with_plain_request plain (Put (Cell (Number n))) }))
-      (λ more. plain_requests_from more words) (λ now. hear_all now (second ∷ words)) all (λ n. again (with_plain_request plain (Put (Cell (Number n)))))
-      (ap (λ (o : Option Plain). o >>= (λ more. plain_requests_from more words)) (sym (cond-true (bytes_eq second (codes ",")) _ _ comma)) ∙ is)
+      ap (λ (o : Option PlainParseState). o >>= (λ now. hear_all now (second ∷ words))) (cond-true (bytes_eq second (codes ",")) _ _ comma)
+      ∙ number_pair (number_spelled_by_word first) (λ n. Some (plain_requests_with_added plain (PlaceItem (Cell (Number n))))) (λ n. Some (record { expect = Nothing; plain = plain_requests_with_added plain (PlaceItem (Cell (Number n))) }))
+      (λ more. plain_requests_from more words) (λ now. hear_all now (second ∷ words)) all (λ n. again (plain_requests_with_added plain (PlaceItem (Cell (Number n)))))
+      (ap (λ (o : Option PlainRequests). o >>= (λ more. plain_requests_from more words)) (sym (cond-true (bytes_eq second (codes ",")) _ _ comma)) ∙ is)
 
-  directive_pair : (d : Directive) (e : Expect) (may : ℕ → Bool) (f : ℕ → Plain) → bytes_eq second (codes ",") ≡ false → find_in_table directive_words first ≡ Some d → next_of d ≡ Some e → ((n : ℕ) → parse_one_word (record { expect = e; plain = plain }) second (slice_index_or words 0 []) ≡ and_then_number (number_spelled_by_word second) (λ n. some_value_if (may n) (record { expect = Word; plain = f n }))) → (and_then_number (number_spelled_by_word second) (λ n. some_value_if (may n) (f n)) >>= (λ more. plain_requests_from more words)) ≡ Some all → hear_all (record { expect = Word; plain = plain }) (first ∷ second ∷ words) ≡ Some all
+  directive_pair : (d : Directive) (e : Expect) (may : ℕ → Bool) (f : ℕ → PlainRequests) → bytes_eq second (codes ",") ≡ false → find_in_table directives_by_name first ≡ Some d → expect_after_directive d ≡ Some e → ((n : ℕ) → parse_one_word (record { expect = e; plain = plain }) second (slice_index_or words 0 []) ≡ apply_to_number_in_range (number_spelled_by_word second) (λ n. some_value_if (may n) (record { expect = Word; plain = f n }))) → (apply_to_number_in_range (number_spelled_by_word second) (λ n. some_value_if (may n) (f n)) >>= (λ more. plain_requests_from more words)) ≡ Some all → hear_all (record { expect = Word; plain = plain }) (first ∷ second ∷ words) ≡ Some all
   unfolding hear_all
   directive_pair d e may f no_comma named next hears is =
-      ap (λ (o : Option Heard). o >>= (λ now. hear_all now (second ∷ words)))
+      ap (λ (o : Option PlainParseState). o >>= (λ now. hear_all now (second ∷ words)))
       (cond-false (bytes_eq second (codes ",")) _ _ no_comma
-      ∙ (ap (λ (o : Option Directive). (o >>= next_of) >>= (λ x. Some (record { expect = x; plain = plain }))) named
+      ∙ (ap (λ (o : Option Directive). (o >>= expect_after_directive) >>= (λ x. Some (record { expect = x; plain = plain }))) named
       ∙ ap (λ (o : Option Expect). o >>= (λ x. Some (record { expect = x; plain = plain }))) next))
-      ∙ (ap (λ (o : Option Heard). o >>= (λ now. hear_all now words)) (hears 0)
+      ∙ (ap (λ (o : Option PlainParseState). o >>= (λ now. hear_all now words)) (hears 0)
       ∙ number_pair (number_spelled_by_word second) (λ n. some_value_if (may n) (f n)) (λ n. some_value_if (may n) (record { expect = Word; plain = f n })) (λ more. plain_requests_from more words) (λ now. hear_all now words) all
       (λ n. allowed_pair (may n) (f n) (record { expect = Word; plain = f n }) (λ more. plain_requests_from more words) (λ now. hear_all now words) all (again (f n))) is)
 
-  pub pair : (with_plain_word_pair plain first second >>= (λ more. plain_requests_from more words)) ≡ Some all → hear_all (record { expect = Word; plain = plain }) (first ∷ second ∷ words) ≡ Some all
+  pub pair : (plain_requests_with_pair plain first second >>= (λ more. plain_requests_from more words)) ≡ Some all → hear_all (record { expect = Word; plain = plain }) (first ∷ second ∷ words) ≡ Some all
   pair is = elim (cases_Bool (bytes_eq second (codes ","))) [
     | inl comma ↦ comma_pair comma is
     | inr other ↦ elim (cases_Bool (bytes_eq first (codes "org"))) [
-      | inl org ↦ directive_pair GoesOn Address (λ n. is_cell_address n) (λ n. with_plain_request plain (Go n)) other (named first (codes "org") GoesOn refl org) refl (λ n. refl) (rw (other, org) at is)
+      | inl org ↦ directive_pair GoesOn Address (λ n. is_cell_address n) (λ n. plain_requests_with_added plain (GoToAddress n)) other (named first (codes "org") GoesOn refl org) refl (λ n. refl) (rw (other, org) at is)
       | inr no_org ↦ elim (cases_Bool (bytes_eq first (codes "/p"))) [
-        | inl p ↦ directive_pair (Gives P) (Register P) (λ n. may_give plain P n) (λ n. record plain { p = Some (Number n) }) other (named first (codes "/p") (Gives P) refl p) refl (λ n. refl) (rw (other, no_org, p) at is)
+        | inl p ↦ directive_pair (Gives P) (Register P) (λ n. can_give_register_value plain P n) (λ n. record plain { p = Some (Number n) }) other (named first (codes "/p") (Gives P) refl p) refl (λ n. refl) (rw (other, no_org, p) at is)
         | inr no_p ↦ elim (cases_Bool (bytes_eq first (codes "/a"))) [
-          | inl a ↦ directive_pair (Gives A) (Register A) (λ n. may_give plain A n) (λ n. record plain { a = Some (Number n) }) other (named first (codes "/a") (Gives A) refl a) refl (λ n. refl) (rw (other, no_org, no_p, a) at is)
+          | inl a ↦ directive_pair (Gives A) (Register A) (λ n. can_give_register_value plain A n) (λ n. record plain { a = Some (Number n) }) other (named first (codes "/a") (Gives A) refl a) refl (λ n. refl) (rw (other, no_org, no_p, a) at is)
           | inr no_a ↦ elim (cases_Bool (bytes_eq first (codes "/b"))) [
-            | inl b ↦ directive_pair (Gives B) (Register B) (λ n. may_give plain B n) (λ n. record plain { b = Some (Number n) }) other (named first (codes "/b") (Gives B) refl b) refl (λ n. refl) (rw (other, no_org, no_p, no_a, b) at is)
+            | inl b ↦ directive_pair (Gives B) (Register B) (λ n. can_give_register_value plain B n) (λ n. record plain { b = Some (Number n) }) other (named first (codes "/b") (Gives B) refl b) refl (λ n. refl) (rw (other, no_org, no_p, no_a, b) at is)
             | inr no_b ↦ absurd (no_some (rw (other, no_org, no_p, no_a, no_b) at is))
           ]
         ]
@@ -155,21 +155,21 @@ module _ (plain all : Plain) (first second : List ℕ) (words : List (List ℕ))
   ]
 
 -- plain words are heard one by one as they are read
-pub hear_plain : (words : List (List ℕ)) (plain all : Plain) → plain_requests_from plain words ≡ Some all → hear_all (record { expect = Word; plain = plain }) words ≡ Some all
+pub hear_plain : (words : List (List ℕ)) (plain all : PlainRequests) → plain_requests_from plain words ≡ Some all → hear_all (record { expect = Word; plain = plain }) words ≡ Some all
 unfolding hear_all plain_requests_from
 hear_plain [] plain all is = is
 hear_plain (word ∷ []) plain all is = absurd (no_some is)
 hear_plain (first ∷ second ∷ words) plain all is = pair plain all first second words (λ more. hear_plain words more all) is
 
 -- after the last
-ended : (e : Expect) (plain all : Plain) → end_of (record { expect = e; plain = plain }) ≡ Some all → plain ≡ all
+ended : (e : Expect) (plain all : PlainRequests) → requests_at_end_of_words (record { expect = e; plain = plain }) ≡ Some all → plain ≡ all
 ended Word plain all is = some_same plain all is
 ended Address plain all is = absurd (no_some is)
 ended Name plain all is = absurd (no_some is)
 ended (Register register) plain all is = absurd (no_some is)
 ended Nothing plain all is = some_same plain all is
 
-pub end_heard : (heard : Heard) (all : Plain) → end_of heard ≡ Some all → heard.plain ≡ all
+pub end_heard : (heard : PlainParseState) (all : PlainRequests) → requests_at_end_of_words heard ≡ Some all → heard.plain ≡ all
 end_heard heard all is = ended heard.expect heard.plain all is
 
 -- ---- the numbers that words say are below 2^18
@@ -183,13 +183,13 @@ abbrev IsSmallAddress : Option ℕ → Type 0
 IsSmallAddress (Some n) = n < 512
 IsSmallAddress None = Unit {0}
 
-size_small : (size : ℕ) → IsSmall (checked_word size)
+size_small : (size : ℕ) → IsSmall (number_in_word_range size)
 size_small size = elim (cases_Bool (ltb size 262144)) [
   | inl small ↦ rw small (ltb-true size 262144 small)
   | inr large ↦ rw large tt
 ]
 
-below_small : (size : ℕ) → IsSmall (checked_negative_word size)
+below_small : (size : ℕ) → IsSmall (negative_number_in_range size)
 below_small size = elim (cases_Bool (leb size 131072)) [
   | inl small ↦ rw small (mod-lt _ (omega arith))
   | inr large ↦ rw large tt
@@ -201,13 +201,13 @@ or_nothing word None small = tt
 
 numeral_small : (text : List ℕ) → IsSmall (signed_number text)
 numeral_small text = elim (cases_Bool (has_prefix text (codes "-"))) [
-  | inl negative ↦ rw negative (or_nothing checked_negative_word (unsigned_number (drop 1 text)) below_small)
-  | inr positive ↦ rw positive (or_nothing checked_word (unsigned_number text) size_small)
+  | inl negative ↦ rw negative (or_nothing negative_number_in_range (unsigned_number (drop 1 text)) below_small)
+  | inr positive ↦ rw positive (or_nothing number_in_word_range (unsigned_number text) size_small)
 ]
 
 -- ---- ports
 
-side_small : (letter bit byte : ℕ) (k : ℕ → Option ℕ) → ((n : ℕ) → n ≤ bit → IsSmallAddress (k n >>= port_set_address)) → IsSmallAddress ((side_value letter bit byte >>= k) >>= port_set_address)
+side_small : (letter bit byte : ℕ) (k : ℕ → Option ℕ) → ((n : ℕ) → n ≤ bit → IsSmallAddress (k n >>= port_set_address)) → IsSmallAddress ((side_letter_value letter bit byte >>= k) >>= port_set_address)
 side_small letter bit byte k small = elim (cases_Bool (byte == letter)) [
   | inl is ↦ rw is (small bit (omega arith))
   | inr other ↦ elim (cases_Bool (byte == 45)) [
@@ -250,7 +250,7 @@ either_small (Some n) second one other = one
 either_small None second one other = other
 
 port_small : (text : List ℕ) → IsSmallAddress (named_port_address text)
-port_small text = either_small (find_in_table named_ports text) (named_port_set text) (name_small named_ports text (omega arith, (omega arith, (omega arith, (omega arith, (omega arith, tt)))))) (set_small text)
+port_small text = either_small (find_in_table named_port_addresses text) (named_port_set text) (name_small named_port_addresses text (omega arith, (omega arith, (omega arith, (omega arith, (omega arith, tt)))))) (set_small text)
 
 -- ---- a port or a numeral
 
@@ -261,11 +261,11 @@ word_small None number port other = other
 number_small : (text : List ℕ) (n : ℕ) → number_spelled_by_word text ≡ Of n → n < 262144
 number_small text n is = subst IsSmall is (word_small (named_port_address text) (signed_number text) (port_small text) (numeral_small text))
 
-asked_so : {X : Type 0} (number : WordNumber) (asks : ℕ → Option X) (more : X) (Holds : Type 0) → ((n : ℕ) → number ≡ Of n → asks n ≡ Some more → Holds) → and_then_number number asks ≡ Some more → Holds
+asked_so : {X : Type 0} (number : WordNumber) (asks : ℕ → Option X) (more : X) (Holds : Type 0) → ((n : ℕ) → number ≡ Of n → asks n ≡ Some more → Holds) → apply_to_number_in_range number asks ≡ Some more → Holds
 asked_so (Of n) asks more Holds each is = each n refl is
 asked_so OutOfRange asks more Holds each is = absurd (no_some is)
 asked_so NoNumber asks more Holds each is = absurd (no_some is)
 
 -- what a number asks for holds where it does for each number that a word can say
-pub number_asks : {X : Type 0} (word : List ℕ) (asks : ℕ → Option X) (more : X) (Holds : Type 0) → ((n : ℕ) → n < 262144 → asks n ≡ Some more → Holds) → and_then_number (number_spelled_by_word word) asks ≡ Some more → Holds
+pub number_asks : {X : Type 0} (word : List ℕ) (asks : ℕ → Option X) (more : X) (Holds : Type 0) → ((n : ℕ) → n < 262144 → asks n ≡ Some more → Holds) → apply_to_number_in_range (number_spelled_by_word word) asks ≡ Some more → Holds
 number_asks word asks more Holds each is = asked_so (number_spelled_by_word word) asks more Holds (λ n number. each n (number_small word n number)) is

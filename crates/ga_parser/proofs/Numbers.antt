@@ -11,10 +11,10 @@ use Rattle.std.proofs.lemmas.List.{take_all}
 use Rattle.std.proofs.lemmas.List.Folds.{list_all_more, list_all_at}
 use Rattle.std.proofs.lemmas.Int.Digits.{digits_value_more}
 use Rattle.ga_parser.specs.declared.number.Number.TheVariants.{Of, OutOfRange, Nothing}
-use Rattle.ga_parser.specs.Vocabulary.{value_of_digits, checked_word, checked_negative_word, find_in_table}
+use Rattle.ga_parser.specs.Vocabulary.{value_of_digits, number_in_word_range, negative_number_in_range, find_in_table}
 use Rattle.ga_slots.specs.declared.op.Op.{Op}
 use Rattle.ga_slots.specs.declared.op.Op.TheVariants.{Return}
-use Rattle.ga_slots.specs.Codes.{name_of}
+use Rattle.ga_slots.specs.Codes.{name_of_opcode}
 
 -- a number, or the greatest that is distinguished
 abbrev told : ℕ → ℕ
@@ -71,36 +71,36 @@ all_digits base text i n some end all is_n =
 
 -- ---- the truncated number suffices
 
-size_told : (n : ℕ) → checked_word (told n) ≡ checked_word n
+size_told : (n : ℕ) → number_in_word_range (told n) ≡ number_in_word_range n
 size_told n = elim (cases_lt n 16777216) [
-  | inl small ↦ let e : min n 16777216 ≡ n = omega arith in ap checked_word e
+  | inl small ↦ let e : min n 16777216 ≡ n = omega arith in ap number_in_word_range e
   | inr large ↦
       let e : min n 16777216 ≡ 16777216 = omega arith in
       let past : 262144 ≤ n = omega arith in
-      ap checked_word e ∙ sym (cond-false (ltb n 262144) (Of n) OutOfRange (le-ltb n 262144 past))
+      ap number_in_word_range e ∙ sym (cond-false (ltb n 262144) (Of n) OutOfRange (le-ltb n 262144 past))
 ]
 
-below_told : (n : ℕ) → checked_negative_word (told n) ≡ checked_negative_word n
+below_told : (n : ℕ) → negative_number_in_range (told n) ≡ negative_number_in_range n
 below_told n = elim (cases_lt n 16777216) [
-  | inl small ↦ let e : min n 16777216 ≡ n = omega arith in ap checked_negative_word e
+  | inl small ↦ let e : min n 16777216 ≡ n = omega arith in ap negative_number_in_range e
   | inr large ↦
       let e : min n 16777216 ≡ 16777216 = omega arith in
       let past : 131072 < n = omega arith in
-      ap checked_negative_word e ∙ sym (cond-false (leb n 131072) _ OutOfRange (lt-leb n 131072 past))
+      ap negative_number_in_range e ∙ sym (cond-false (leb n 131072) _ OutOfRange (lt-leb n 131072 past))
 ]
 
-pub read_size : (number read : Option ℕ) → read ≡ option_map (λ n. min n 16777216) number → option_map_or checked_word read Nothing ≡ option_map_or checked_word number Nothing
-read_size None read e = ap (λ (o : Option ℕ). option_map_or checked_word o Nothing) e
-read_size (Some n) read e = ap (λ (o : Option ℕ). option_map_or checked_word o Nothing) e ∙ size_told n
+pub read_size : (number read : Option ℕ) → read ≡ option_map (λ n. min n 16777216) number → option_map_or number_in_word_range read Nothing ≡ option_map_or number_in_word_range number Nothing
+read_size None read e = ap (λ (o : Option ℕ). option_map_or number_in_word_range o Nothing) e
+read_size (Some n) read e = ap (λ (o : Option ℕ). option_map_or number_in_word_range o Nothing) e ∙ size_told n
 
-pub read_below : (number read : Option ℕ) → read ≡ option_map (λ n. min n 16777216) number → option_map_or checked_negative_word read Nothing ≡ option_map_or checked_negative_word number Nothing
-read_below None read e = ap (λ (o : Option ℕ). option_map_or checked_negative_word o Nothing) e
-read_below (Some n) read e = ap (λ (o : Option ℕ). option_map_or checked_negative_word o Nothing) e ∙ below_told n
+pub read_below : (number read : Option ℕ) → read ≡ option_map (λ n. min n 16777216) number → option_map_or negative_number_in_range read Nothing ≡ option_map_or negative_number_in_range number Nothing
+read_below None read e = ap (λ (o : Option ℕ). option_map_or negative_number_in_range o Nothing) e
+read_below (Some n) read e = ap (λ (o : Option ℕ). option_map_or negative_number_in_range o Nothing) e ∙ below_told n
 
 -- ---- opcodes by their own names
 
 abbrev row_of : Op → List ℕ × Op
-row_of op = (name_of op, op)
+row_of op = (name_of_opcode op, op)
 
 rows_left : (ops : List Op) (code : ℕ) → code < length ops → drop code (map row_of ops) ≡ row_of (get_or ops code Return) ∷ drop (code + 1) (map row_of ops)
 rows_left [] code within = absurd (omega arith)
@@ -109,12 +109,12 @@ rows_left (op ∷ ops) (suc code) within =
     let one : suc code + 1 ≡ suc (code + 1) = omega arith in
     rows_left ops code (omega arith) ∙ ap (λ (k : ℕ). row_of (get_or ops code Return) ∷ drop k (map row_of (op ∷ ops))) (sym one)
 
-module _ (ops : List Op) (code : ℕ) (text name : List ℕ) (within : code < length ops) (is : name ≡ name_of (get_or ops code Return)) (before : find_in_table (drop code (map row_of ops)) text ≡ find_in_table (map row_of ops) text) where
+module _ (ops : List Op) (code : ℕ) (text name : List ℕ) (within : code < length ops) (is : name ≡ name_of_opcode (get_or ops code Return)) (before : find_in_table (drop code (map row_of ops)) text ≡ find_in_table (map row_of ops) text) where
   first : find_in_table (row_of (get_or ops code Return) ∷ drop (code + 1) (map row_of ops)) text ≡ find_in_table (map row_of ops) text
   first = ap (λ (rows : List (List ℕ × Op)). find_in_table rows text) (sym (rows_left ops code within)) ∙ before
 
   pub other_row : bytes_eq text name ≡ false → find_in_table (drop (code + 1) (map row_of ops)) text ≡ find_in_table (map row_of ops) text
-  other_row test = sym (cond-false (bytes_eq text (name_of (get_or ops code Return))) _ _ (ap (bytes_eq text) (sym is) ∙ test)) ∙ first
+  other_row test = sym (cond-false (bytes_eq text (name_of_opcode (get_or ops code Return))) _ _ (ap (bytes_eq text) (sym is) ∙ test)) ∙ first
 
   pub this_row : bytes_eq text name ≡ true → Some (get_or ops code Return) ≡ find_in_table (map row_of ops) text
-  this_row test = sym (cond-true (bytes_eq text (name_of (get_or ops code Return))) _ _ (ap (bytes_eq text) (sym is) ∙ test)) ∙ first
+  this_row test = sym (cond-true (bytes_eq text (name_of_opcode (get_or ops code Return))) _ _ (ap (bytes_eq text) (sym is) ∙ test)) ∙ first

@@ -3,10 +3,10 @@ use Rattle.std.proofs.Common.{◌≡◌, ◌∙◌, ℕ, ◌+◌, ◌<◌, List,
 use Rattle.ga_parser.specs.declared.scan.Token.{Token}
 use Rattle.ga_parser.specs.inner.Placing.{placed, placed_all}
 use Rattle.ga_parser.specs.Constants.{ConstantResolution, resolve_next_word, resolve_words_from}
-use Rattle.ga_parser.specs.inner.Drafting.{texts_of}
+use Rattle.ga_parser.specs.inner.Drafting.{texts_of_tokens}
 use Rattle.ga_parser.proofs.Placing.{first_placed, next_placed}
 
-pub one_resolved : (so_far after : ConstantResolution) (tokens : List Token) (k : ℕ) (d : Token) (next : List ℕ) → k < length tokens → next ≡ slice_index_or (texts_of tokens) (k + 1) []
+pub one_resolved : (so_far after : ConstantResolution) (tokens : List Token) (k : ℕ) (d : Token) (next : List ℕ) → k < length tokens → next ≡ slice_index_or (texts_of_tokens tokens) (k + 1) []
     → after ≡ resolve_next_word so_far (placed (get_or tokens k d)) next → resolve_words_from so_far (placed_all (drop k tokens)) ≡ resolve_words_from after (placed_all (drop (k + 1) tokens))
 unfolding resolve_words_from
 one_resolved so_far after tokens k d next within is_next taken =

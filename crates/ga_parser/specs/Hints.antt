@@ -4,8 +4,8 @@ use Rattle.std.specs.Cmp.Lexicographic.{pointwise}
 use Rattle.std.specs.Char.{eq_ignore_ascii_case}
 use Rattle.ga_ports.specs.Steps.{◌>>=◌}
 use Rattle.ga_parser.specs.Nearness.{is_within_one_edit}
-use Rattle.ga_parser.specs.Vocabulary.{find_in_table, has_prefix, value_of_digits, number_spelled_by_word, is_a_number}
-use Rattle.ga_parser.specs.declared.hint.Hint.{Hint}
+use Rattle.ga_parser.specs.Vocabulary.{find_in_table, has_prefix, value_of_digits, number_spelled_by_word, spells_number}
+use Rattle.ga_parser.specs.declared.hint.SpellingHint.{SpellingHint}
 
 -- ---- words of other Forths and of assemblers
 
@@ -72,8 +72,8 @@ abbrev pub digits_after_dollar : List ℕ → Option (List ℕ)
 digits_after_dollar word = some_text_if (has_prefix word (codes "$") && is_some (value_of_digits 16 (drop 1 word))) (drop 1 word)
 
 -- the word without its last byte, where it is this one and others stand before it
-abbrev pub word_before_byte : ℕ → List ℕ → Option (List ℕ)
-word_before_byte end word = some_text_if (slice_index word (length word - 1) == end && nat_lt 1 (length word)) (take (length word - 1) word)
+abbrev pub word_before_final_byte : ℕ → List ℕ → Option (List ℕ)
+word_before_final_byte end word = some_text_if (slice_index word (length word - 1) == end && nat_lt 1 (length word)) (take (length word - 1) word)
 
 -- the name of `:main`
 abbrev pub name_after_colon : List ℕ → Option (List ℕ)
@@ -81,7 +81,7 @@ name_after_colon word = some_text_if (has_prefix word (codes ":") && nat_lt 1 (l
 
 -- the number of `5,`
 abbrev pub number_before_comma : List ℕ → Option (List ℕ)
-number_before_comma word = word_before_byte 44 word >>= (λ rest. some_text_if (is_a_number (number_spelled_by_word rest)) rest)
+number_before_comma word = word_before_final_byte 44 word >>= (λ rest. some_text_if (spells_number (number_spelled_by_word rest)) rest)
 
 -- the first text that is there, put into others; else another one
 abbrev pub map_text_or : {X : Type 0} → Option (List ℕ) → (List ℕ → X) → X → X
@@ -93,25 +93,25 @@ unfoldable pub local_spelling : List ℕ → Option (List ℕ)
 local_spelling word =
     map_text_or (foreign_spelling word) (λ text. Some text)
     (map_text_or (digits_after_dollar word) (λ text. Some (codes "0x" ++ text))
-    (map_text_or (word_before_byte 59 word) (λ text. Some (text ++ codes " ;"))
-    (map_text_or (word_before_byte 58 word) (λ text. Some (codes ": " ++ text))
+    (map_text_or (word_before_final_byte 59 word) (λ text. Some (text ++ codes " ;"))
+    (map_text_or (word_before_final_byte 58 word) (λ text. Some (codes ": " ++ text))
     (map_text_or (name_after_colon word) (λ text. Some (codes ": " ++ text))
     (map_text_or (number_before_comma word) (λ text. Some (text ++ codes " ,")) None)))))
 
 -- ---- names that were meant
 
 -- they differ in upper case alone, or, where the name has four letters or more, in one letter
-abbrev pub is_probable_name : List ℕ → List ℕ → Bool
-is_probable_name word name = pointwise eq_ignore_ascii_case word name || nat_lt 3 (length name) && is_within_one_edit word name
+abbrev pub is_probable_misspelling : List ℕ → List ℕ → Bool
+is_probable_misspelling word name = pointwise eq_ignore_ascii_case word name || nat_lt 3 (length name) && is_within_one_edit word name
 
 -- the first name that was meant
 unfoldable pub first_probable_name : List ℕ → List (List ℕ) → Option (List ℕ)
 first_probable_name word [] = None
-first_probable_name word (name ∷ names) = if is_probable_name word name then Some name else first_probable_name word names
+first_probable_name word (name ∷ names) = if is_probable_misspelling word name then Some name else first_probable_name word names
 
 -- words of source
-abbrev pub known_words : List (List ℕ)
-known_words =
+abbrev pub known_source_words : List (List ℕ)
+known_source_words =
     codes "drop" ∷ codes "dup" ∷ codes "pop" ∷ codes "over" ∷ codes "push" ∷ codes "and" ∷ codes "or" ∷ codes "xor"
     ∷ codes "inv" ∷ codes "invert" ∷ codes "nop" ∷ codes "ex" ∷ codes "a" ∷ codes "a!" ∷ codes "b!" ∷ codes "begin"
     ∷ codes "for" ∷ codes "next" ∷ codes "unext" ∷ codes "*next" ∷ codes "again" ∷ codes "until" ∷ codes "-until" ∷ codes "while"
@@ -120,19 +120,19 @@ known_words =
     ∷ []
 
 unfoldable pub find_probable_word : List ℕ → Option (List ℕ)
-find_probable_word word = first_probable_name word known_words
+find_probable_word word = first_probable_name word known_source_words
 
 -- ---- hints
 
 -- the hint for the word, if there is one: its form here, otherwise the name that was probably meant, with a `?`
-unfoldable pub hint_for : List ℕ → Option (List ℕ)
-hint_for word = map_text_or (local_spelling word) (λ text. Some text) (map_text_or (find_probable_word word) (λ name. Some (name ++ codes "?")) None)
+unfoldable pub hint_for_word : List ℕ → Option (List ℕ)
+hint_for_word word = map_text_or (local_spelling word) (λ text. Some text) (map_text_or (find_probable_word word) (λ name. Some (name ++ codes "?")) None)
 
-abbrev pub hint_text : Hint → List ℕ
+abbrev pub hint_text : SpellingHint → List ℕ
 hint_text hint = hint.before.now ++ (hint.word.now ++ hint.behind.now)
 
 -- a part of the word, and before and after it at most 64 bytes
-pub record IsShortHint (word : List ℕ) (hint : Hint) : Type 0 where
+pub record IsShortHint (word : List ℕ) (hint : SpellingHint) : Type 0 where
   pub before : length hint.before.now ≤ 64
   pub part : length hint.word.now ≤ length word
   pub behind : length hint.behind.now ≤ 64

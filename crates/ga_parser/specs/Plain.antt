@@ -1,14 +1,14 @@
 -- What plain words ask for: cells of data, addresses and registers, by numbers alone (docs/REFERENCE.md, "Source"; this project's
 -- own). A source without labels, opcodes and control words, as a chip's image written out, is of such words alone.
 use Rattle.std.specs.Prelude.{ℕ, nat_le, nat_lt, ◌&&◌, ◌||◌, is_none, if◌then◌else◌, List, [], ◌∷◌, ◌++◌, map, codes, bytes_eq, Bool, true, false, Option, Some, None, option_map}
-use Rattle.ga_grid.specs.Grid.{number_of_yxx, parse_node_name}
+use Rattle.ga_grid.specs.Grid.{node_number_of_name, parse_decimal_name}
 use Rattle.ga_parser.specs.declared.number.Number.{Number as NumberIn}
 use Rattle.ga_parser.specs.declared.number.Number.TheVariants.{Of, OutOfRange, Nothing}
 use Rattle.ga_parser.specs.declared.item.Operand.{Operand}
 use Rattle.ga_parser.specs.declared.item.Operand.TheVariants.{Number}
 use Rattle.ga_parser.specs.declared.item.AssemblyItem.TheVariants.{Cell}
 use Rattle.ga_parser.specs.declared.item.AssemblyRequest.{AssemblyRequest}
-use Rattle.ga_parser.specs.declared.item.AssemblyRequest.TheVariants.{Put, Go}
+use Rattle.ga_parser.specs.declared.item.AssemblyRequest.TheVariants.{PlaceItem, GoToAddress}
 use Rattle.ga_parser.specs.declared.item.LocatedRequest.{LocatedRequest}
 use Rattle.ga_parser.specs.declared.item.RegisterValue.{RegisterValue}
 use Rattle.ga_parser.specs.declared.item.InitialRegisters.{InitialRegisters}
@@ -38,30 +38,30 @@ body_word_lists (word ∷ words) = if is_node_keyword word then body_words words
 
 -- the number of the node with a name of three digits
 abbrev pub named_node_number : List ℕ → Option ℕ
-named_node_number text = parse_node_name text >>= number_of_yxx
+named_node_number text = parse_decimal_name text >>= node_number_of_name
 
 -- ---- what plain words ask for
 
 -- requests and values of registers
-pub record Plain : Type 0 where
+pub record PlainRequests : Type 0 where
   pub requests : List AssemblyRequest
   pub p : Option Operand
   pub a : Option Operand
   pub b : Option Operand
 
 -- no request
-abbrev pub no_plain_requests : Plain
+abbrev pub no_plain_requests : PlainRequests
 no_plain_requests = record { requests = []; p = None; a = None; b = None }
 
 -- one request more
-abbrev pub with_plain_request : Plain → AssemblyRequest → Plain
-with_plain_request plain request = record plain { requests = plain.requests ++ request ∷ [] }
+abbrev pub plain_requests_with_added : PlainRequests → AssemblyRequest → PlainRequests
+plain_requests_with_added plain request = record plain { requests = plain.requests ++ request ∷ [] }
 
 -- what a number asks for, where the word is one that is in range
-abbrev pub and_then_number : {X : Type 0} → NumberIn → (ℕ → Option X) → Option X
-and_then_number (Of n) asks = asks n
-and_then_number OutOfRange asks = None
-and_then_number Nothing asks = None
+abbrev pub apply_to_number_in_range : {X : Type 0} → NumberIn → (ℕ → Option X) → Option X
+apply_to_number_in_range (Of n) asks = asks n
+apply_to_number_in_range OutOfRange asks = None
+apply_to_number_in_range Nothing asks = None
 
 -- the value, where the test holds
 abbrev pub some_value_if : {X : Type 0} → Bool → X → Option X
@@ -77,24 +77,24 @@ abbrev pub may_set_register : Option Operand → ℕ → ℕ → Bool
 may_set_register given n bound = is_none given && nat_lt n bound
 
 -- two words more: `N ,`, `org N`, `/p N`, `/a N` or `/b N`, with N in range, and each register at most once
-abbrev pub with_plain_word_pair : Plain → List ℕ → List ℕ → Option Plain
-with_plain_word_pair plain first second =
-    if bytes_eq second (codes ",") then and_then_number (number_spelled_by_word first) (λ n. Some (with_plain_request plain (Put (Cell (Number n)))))
-    else if bytes_eq first (codes "org") then and_then_number (number_spelled_by_word second) (λ n. some_value_if (is_cell_address n) (with_plain_request plain (Go n)))
-    else if bytes_eq first (codes "/p") then and_then_number (number_spelled_by_word second) (λ n. some_value_if (may_set_register plain.p n 0x400) (record plain { p = Some (Number n) }))
-    else if bytes_eq first (codes "/a") then and_then_number (number_spelled_by_word second) (λ n. some_value_if (may_set_register plain.a n 0x40000) (record plain { a = Some (Number n) }))
-    else if bytes_eq first (codes "/b") then and_then_number (number_spelled_by_word second) (λ n. some_value_if (may_set_register plain.b n 0x200) (record plain { b = Some (Number n) }))
+abbrev pub plain_requests_with_pair : PlainRequests → List ℕ → List ℕ → Option PlainRequests
+plain_requests_with_pair plain first second =
+    if bytes_eq second (codes ",") then apply_to_number_in_range (number_spelled_by_word first) (λ n. Some (plain_requests_with_added plain (PlaceItem (Cell (Number n)))))
+    else if bytes_eq first (codes "org") then apply_to_number_in_range (number_spelled_by_word second) (λ n. some_value_if (is_cell_address n) (plain_requests_with_added plain (GoToAddress n)))
+    else if bytes_eq first (codes "/p") then apply_to_number_in_range (number_spelled_by_word second) (λ n. some_value_if (may_set_register plain.p n 0x400) (record plain { p = Some (Number n) }))
+    else if bytes_eq first (codes "/a") then apply_to_number_in_range (number_spelled_by_word second) (λ n. some_value_if (may_set_register plain.a n 0x40000) (record plain { a = Some (Number n) }))
+    else if bytes_eq first (codes "/b") then apply_to_number_in_range (number_spelled_by_word second) (λ n. some_value_if (may_set_register plain.b n 0x200) (record plain { b = Some (Number n) }))
     else None
 
 -- the requests of words after others, if each is plain
-unfoldable pub plain_requests_from : Plain → List (List ℕ) → Option Plain
+unfoldable pub plain_requests_from : PlainRequests → List (List ℕ) → Option PlainRequests
 plain_requests_from plain [] = Some plain
 plain_requests_from plain (word ∷ []) = None
-plain_requests_from plain (first ∷ second ∷ words) = with_plain_word_pair plain first second >>= (λ more. plain_requests_from more words)
+plain_requests_from plain (first ∷ second ∷ words) = plain_requests_with_pair plain first second >>= (λ more. plain_requests_from more words)
 
 -- the requests of the words after a node's name, if each is plain
-abbrev pub plain_requests_of : List (List ℕ) → Option Plain
-plain_requests_of words = plain_requests_from no_plain_requests words
+abbrev pub plain_requests_of_words : List (List ℕ) → Option PlainRequests
+plain_requests_of_words words = plain_requests_from no_plain_requests words
 
 -- ---- requests as plain words
 
@@ -103,7 +103,7 @@ abbrev pub optional_register_operand : Option RegisterValue → Option Operand
 optional_register_operand given = option_map (λ one. one.value) given
 
 -- requests without their lines, and the registers' values
-abbrev pub as_plain_requests : List LocatedRequest → InitialRegisters → Plain
+abbrev pub as_plain_requests : List LocatedRequest → InitialRegisters → PlainRequests
 as_plain_requests asked registers = record {
   requests = map (λ one. one.request) asked;
   p = optional_register_operand registers.p;

@@ -12,11 +12,11 @@ use Rattle.ga_parser.specs.declared.number.Number.TheVariants.{Of, OutOfRange, N
 use Rattle.ga_parser.specs.Saying.{has_bytes}
 use Rattle.ga_slots.specs.declared.op.Op.{Op}
 use Rattle.ga_slots.specs.declared.op.Op.TheVariants.{Jump, Call, Unext as UnextOp, Next as NextOp, If as IfOp, MinusIf, Invert, Or, Nop}
-use Rattle.ga_slots.specs.Codes.{name_of, all_ops}
+use Rattle.ga_slots.specs.Codes.{name_of_opcode, all_opcodes}
 use Rattle.ga_parser.specs.declared.vocabulary.Control.{Control}
 use Rattle.ga_parser.specs.declared.vocabulary.Control.TheVariants.{Begin, For, Again, Until, Next, NextAround, Unext, While, Repeat, If, Else, Then}
 use Rattle.ga_parser.specs.declared.vocabulary.Directive.{Directive}
-use Rattle.ga_parser.specs.declared.vocabulary.Directive.TheVariants.{Label, Address, Register as Given, Fill, Carry}
+use Rattle.ga_parser.specs.declared.vocabulary.Directive.TheVariants.{Label, Address, Register as Given, BeginNewCell, Carry}
 use Rattle.ga_parser.specs.declared.vocabulary.Register.{Register}
 use Rattle.ga_parser.specs.declared.vocabulary.Register.TheVariants.{P, A, B}
 use Rattle.ga_parser.specs.declared.fault.NumberRange.{NumberRange}
@@ -41,17 +41,17 @@ abbrev pub unsigned_number : List ℕ → Option ℕ
 unsigned_number text = if has_prefix text (codes "0x") then value_of_digits 16 (drop 2 text) else value_of_digits 10 text
 
 -- a number up to 262143
-abbrev pub checked_word : ℕ → Number
-checked_word size = if nat_lt size 262144 then Of size else OutOfRange
+abbrev pub number_in_word_range : ℕ → Number
+number_in_word_range size = if nat_lt size 262144 then Of size else OutOfRange
 
 -- a number down to -131072, modulo 2^18
-abbrev pub checked_negative_word : ℕ → Number
-checked_negative_word size = if nat_le size 131072 then Of ((262144 - size) % 262144) else OutOfRange
+abbrev pub negative_number_in_range : ℕ → Number
+negative_number_in_range size = if nat_le size 131072 then Of ((262144 - size) % 262144) else OutOfRange
 
 abbrev pub signed_number : List ℕ → Number
 signed_number text =
-    if has_prefix text (codes "-") then option_map_or checked_negative_word (unsigned_number (drop 1 text)) Nothing
-    else option_map_or checked_word (unsigned_number text) Nothing
+    if has_prefix text (codes "-") then option_map_or negative_number_in_range (unsigned_number (drop 1 text)) Nothing
+    else option_map_or number_in_word_range (unsigned_number text) Nothing
 
 -- ---- ports
 
@@ -60,8 +60,8 @@ abbrev pub find_in_table : {X : Type 0} → List (List ℕ × X) → List ℕ �
 find_in_table [] text = None
 find_in_table (row ∷ rest) text = if bytes_eq text row.0 then Some row.1 else find_in_table rest text
 
-abbrev pub named_ports : List (List ℕ × ℕ)
-named_ports =
+abbrev pub named_port_addresses : List (List ℕ × ℕ)
+named_port_addresses =
     (codes "right", 0x1d5)
     ∷ (codes "down", 0x115)
     ∷ (codes "left", 0x175)
@@ -78,7 +78,7 @@ abbrev pub named_port_set : List ℕ → Option ℕ
 named_port_set text = parse_side_set text >>= port_set_address
 
 abbrev pub named_port_address : List ℕ → Option ℕ
-named_port_address text = option_or (find_in_table named_ports text) (named_port_set text)
+named_port_address text = option_or (find_in_table named_port_addresses text) (named_port_set text)
 
 -- ---- what a word says of a number: the address of a port, or the number modulo 2^18
 abbrev pub number_spelled_by_word : List ℕ → Number
@@ -87,8 +87,8 @@ number_spelled_by_word text = option_map_or Of (named_port_address text) (signed
 -- ---- opcodes
 
 -- the names that an opcode has beside its own
-abbrev pub opcode_aliases : List (List ℕ × Op)
-opcode_aliases =
+abbrev pub opcodes_by_alias : List (List ℕ × Op)
+opcodes_by_alias =
     (codes "-", Invert)
     ∷ (codes "inv", Invert)
     ∷ (codes "xor", Or)
@@ -96,8 +96,8 @@ opcode_aliases =
     ∷ []
 
 -- each opcode by its own name
-abbrev pub opcode_names : List (List ℕ × Op)
-opcode_names = map (λ op. (name_of op, op)) all_ops
+abbrev pub opcodes_by_name : List (List ℕ × Op)
+opcodes_by_name = map (λ op. (name_of_opcode op, op)) all_opcodes
 
 -- the opcode, if no address follows it: one with an address is written as a call, a loop or a jump ahead
 abbrev pub opcode_without_address : Op → Option Op
@@ -111,7 +111,7 @@ opcode_without_address op = Some op
 
 -- the opcode that a word is
 unfoldable pub opcode_of_word : List ℕ → Option Op
-opcode_of_word word = option_or (find_in_table opcode_aliases word) (find_in_table opcode_names word) >>= opcode_without_address
+opcode_of_word word = option_or (find_in_table opcodes_by_alias word) (find_in_table opcodes_by_name word) >>= opcode_without_address
 
 -- ---- control words
 
@@ -129,8 +129,8 @@ loop_closing_words =
     ∷ (codes "repeat", Repeat)
     ∷ []
 
-abbrev pub controls : List (List ℕ × Control)
-controls =
+abbrev pub control_words_by_name : List (List ℕ × Control)
+control_words_by_name =
     (codes "begin", Begin)
     ∷ (codes "for", For)
     ∷ (codes "if", If IfOp)
@@ -142,25 +142,25 @@ controls =
 
 -- the control word that a word is
 unfoldable pub control_of_word : List ℕ → Option Control
-control_of_word word = find_in_table controls word
+control_of_word word = find_in_table control_words_by_name word
 
 -- ---- directives
 
-abbrev pub directive_words : List (List ℕ × Directive)
-directive_words =
+abbrev pub directives_by_name : List (List ℕ × Directive)
+directives_by_name =
     (codes ":", Label)
     ∷ (codes "org", Address)
     ∷ (codes "/p", Given P)
     ∷ (codes "/a", Given A)
     ∷ (codes "/b", Given B)
-    ∷ (codes "..", Fill)
+    ∷ (codes "..", BeginNewCell)
     ∷ (codes "+cy", Carry true)
     ∷ (codes "-cy", Carry false)
     ∷ []
 
 -- the directive that a word is
 unfoldable pub directive_of_word : List ℕ → Option Directive
-directive_of_word word = find_in_table directive_words word
+directive_of_word word = find_in_table directives_by_name word
 
 -- what a register is given is below this
 abbrev pub register_bound : Register → ℕ
@@ -177,10 +177,10 @@ register_range B = ToB
 -- ---- names
 
 -- what a word says is a number, in range or not
-abbrev pub is_a_number : Number → Bool
-is_a_number (Of _) = true
-is_a_number OutOfRange = true
-is_a_number Nothing = false
+abbrev pub spells_number : Number → Bool
+spells_number (Of _) = true
+spells_number OutOfRange = true
+spells_number Nothing = false
 
 -- the word begins a node or an expectation, defines a constant, ends a cell or begins a comment, or has an apostrophe in front
 abbrev pub is_syntax_word : List ℕ → Bool
@@ -188,10 +188,10 @@ is_syntax_word word = bytes_eq word (codes "node") || bytes_eq word (codes "expe
 
 -- The word says something of itself, so that no label has this name: an opcode, with an address or without, a control word, a number,
 -- a port, a directive, or a sign.
-unfoldable pub is_reserved : List ℕ → Bool
-is_reserved word =
+unfoldable pub is_reserved_word : List ℕ → Bool
+is_reserved_word word =
     (is_some (opcode_of_word word) || bytes_eq word (codes "jump") || bytes_eq word (codes "call"))
     || is_some (control_of_word word)
-    || is_a_number (number_spelled_by_word word)
+    || spells_number (number_spelled_by_word word)
     || is_some (directive_of_word word)
     || is_syntax_word word

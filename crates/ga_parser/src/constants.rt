@@ -1,15 +1,15 @@
 //! Words without the definitions of constants, which are read as their numbers.
 
 ghost use Rattle.std.specs.Prelude.{◌≡◌, IfOk};
-ghost use Rattle.ga_parser.specs.Constants.{begins_definition as defines_by, begins_label as begins_label_in, constant_resolution, without_definitions, fault_token as constant_fault_token, number_or_word as or_word_in};
+ghost use Rattle.ga_parser.specs.Constants.{is_number_before_constant as defines_by, begins_label as begins_label_in, resolution_of_words, tokens_without_definitions, fault_replacing_word as constant_fault_token, number_text_or_word as or_word_in};
 ghost use Rattle.ga_parser.specs.inner.Placing.{placed, placed_all};
-ghost use Rattle.ga_parser.specs.inner.Resolving.{resolving_of};
+ghost use Rattle.ga_parser.specs.inner.Resolving.{resolution_of_parser};
 
 use super::draft::text_at;
 use super::labels::Labels;
 use super::number::{Number, number_of};
 use super::scan::{Token, TokenKind};
-use super::vocabulary::is_reserved;
+use super::vocabulary::is_reserved_word;
 use std::alloc::{AllocError, Global};
 
 /// What the next word is.
@@ -34,7 +34,7 @@ pub(crate) struct Resolving<'s> {
 }
 
 /// Whether a constant is defined: its number is the word, and the next word is `constant`.
-fn begins_definition(word: Token<'_>, next: &[u8]) -> bool
+fn is_number_before_constant(word: Token<'_>, next: &[u8]) -> bool
     ensures { result ≡ defines_by (placed word.entry) next.now }
 {
     word.kind == TokenKind::Word && next == b"constant".as_slice()
@@ -48,7 +48,7 @@ fn begins_label(word: Token<'_>) -> bool
 }
 
 /// A fault in the place of a word.
-fn fault_token<'s>(kind: TokenKind, word: Token<'s>) -> Token<'s>
+fn fault_replacing_word<'s>(kind: TokenKind, word: Token<'s>) -> Token<'s>
     ensures { placed result ≡ constant_fault_token kind (placed word.entry) }
 {
     Token {
@@ -61,12 +61,12 @@ fn fault_token<'s>(kind: TokenKind, word: Token<'s>) -> Token<'s>
 
 impl<'s> Resolving<'s> {
     ghost use Rattle.std.specs.Prelude.{◌≡◌, option_map, OnOk};
-    ghost use Rattle.ga_parser.specs.Constants.{initial_resolution, resolve_next_word, resolved_word_text as read_as_in, constant_number_text as named_number, with_defined_name, is_free_name as is_free_in, definition_fault as definition_fault_in, resolve_definition as define_in, with_passed_word, end_resolution, with_added_token};
+    ghost use Rattle.ga_parser.specs.Constants.{initial_resolution, resolve_next_word, resolved_word_text as read_as_in, constant_number_text as named_number, resolution_with_defined_name, is_free_name as is_free_in, constant_definition_fault as definition_fault_in, add_constant_definition as define_in, resolution_with_passed_word, end_resolution, resolution_with_token};
     ghost use Rattle.ga_parser.specs.inner.Placing.{placed};
-    ghost use Rattle.ga_parser.specs.inner.Resolving.{resolving_of, known_of};
+    ghost use Rattle.ga_parser.specs.inner.Resolving.{resolution_of_parser, known_names_of_parser};
 
     fn new(alloc: Global) -> Self
-        ensures { resolving_of result ≡ initial_resolution }
+        ensures { resolution_of_parser result ≡ initial_resolution }
     {
         Resolving {
             words: Vec::new(alloc),
@@ -78,17 +78,17 @@ impl<'s> Resolving<'s> {
 
     /// What a word is read as: a constant as its number.
     pub(crate) fn resolved_word_text(&self, word: &'s [u8]) -> &'s [u8]
-        ensures { result.now ≡ read_as_in (known_of self.now) word.now }
+        ensures { result.now ≡ read_as_in (known_names_of_parser self.now) word.now }
     {
         match self.names.find(word) {
-            Some(name) => number_or_word(self.constant_number_text(name), word),
+            Some(name) => number_text_or_word(self.constant_number_text(name), word),
             None => word,
         }
     }
 
     /// What the name with a number is read as, nothing for a label.
     fn constant_number_text(&self, name: usize) -> &'s [u8]
-        ensures { result.now ≡ named_number (known_of self.now) name }
+        ensures { result.now ≡ named_number (known_names_of_parser self.now) name }
     {
         match self.numbers.get(name) {
             Some(number) => number,
@@ -98,7 +98,7 @@ impl<'s> Resolving<'s> {
 
     /// Adds a word.
     fn push(&mut self, word: Token<'s>) -> Result<(), AllocError>
-        ensures { OnOk result (resolving_of self.new ≡ with_added_token (resolving_of self.old) (placed word.entry)) }
+        ensures { OnOk result (resolution_of_parser self.new ≡ resolution_with_token (resolution_of_parser self.old) (placed word.entry)) }
     {
         self.words.push(word)?;
         Ok(())
@@ -106,7 +106,7 @@ impl<'s> Resolving<'s> {
 
     /// Adds a name, unless it is there.
     fn add(&mut self, line: u32, name: &'s [u8], number: &'s [u8]) -> Result<(), AllocError>
-        ensures { OnOk result (resolving_of self.new ≡ with_defined_name (resolving_of self.old) line name.now number.now) }
+        ensures { OnOk result (resolution_of_parser self.new ≡ resolution_with_defined_name (resolution_of_parser self.old) line name.now number.now) }
     {
         if self.names.find(name).is_some() {
             return Ok(());
@@ -118,14 +118,14 @@ impl<'s> Resolving<'s> {
 
     /// Whether a constant may have this name.
     fn is_free_name(&self, name: &'s [u8]) -> bool
-        ensures { result ≡ is_free_in (known_of self.now) name.now }
+        ensures { result ≡ is_free_in (known_names_of_parser self.now) name.now }
     {
-        !is_reserved(name) && self.names.find(name).is_none()
+        !is_reserved_word(name) && self.names.find(name).is_none()
     }
 
     /// What is wrong with the definition of a constant, if something is.
-    fn definition_fault(&self, number: Token<'s>, name: Token<'s>) -> Option<Token<'s>>
-        ensures { option_map placed result ≡ definition_fault_in (known_of self.now) (placed number.entry) (placed name.entry) }
+    fn constant_definition_fault(&self, number: Token<'s>, name: Token<'s>) -> Option<Token<'s>>
+        ensures { option_map placed result ≡ definition_fault_in (known_names_of_parser self.now) (placed number.entry) (placed name.entry) }
     {
         let text = self.resolved_word_text(number.text);
         match number_of(text) {
@@ -133,27 +133,30 @@ impl<'s> Resolving<'s> {
                 if self.is_free_name(name.text) {
                     None
                 } else {
-                    Some(fault_token(TokenKind::Taken, name))
+                    Some(fault_replacing_word(TokenKind::NameTaken, name))
                 }
             }
-            Number::OutOfRange | Number::Nothing => Some(fault_token(TokenKind::NoNumber, number)),
+            Number::OutOfRange | Number::Nothing => Some(fault_replacing_word(
+                TokenKind::NoNumber,
+                number,
+            )),
         }
     }
 
     /// Defines a constant, or adds the fault of its definition.
-    fn resolve_definition(
+    fn add_constant_definition(
         &mut self,
         number: Token<'s>,
         word: Token<'s>,
         name: Token<'s>,
     ) -> Result<(), AllocError>
-        ensures { OnOk result (resolving_of self.new ≡ define_in (resolving_of self.old) (placed number.entry) (placed word.entry) (placed name.entry)) }
+        ensures { OnOk result (resolution_of_parser self.new ≡ define_in (resolution_of_parser self.old) (placed number.entry) (placed word.entry) (placed name.entry)) }
     {
         if name.kind != TokenKind::Word {
-            self.push(fault_token(TokenKind::Missing, word))?;
+            self.push(fault_replacing_word(TokenKind::MissingNameOrValue, word))?;
             return self.push(name);
         }
-        match self.definition_fault(number, name) {
+        match self.constant_definition_fault(number, name) {
             Some(fault) => self.push(fault),
             None => {
                 let text = self.resolved_word_text(number.text);
@@ -164,7 +167,7 @@ impl<'s> Resolving<'s> {
 
     /// Takes a word that is no part of a definition.
     fn pass(&mut self, word: Token<'s>, next: &'s [u8]) -> Result<(), AllocError>
-        ensures { OnOk result (resolving_of self.new ≡ with_passed_word (resolving_of self.old) (placed word.entry) next.now) }
+        ensures { OnOk result (resolution_of_parser self.new ≡ resolution_with_passed_word (resolution_of_parser self.old) (placed word.entry) next.now) }
     {
         let text = self.resolved_word_text(word.text);
         self.push(Token {
@@ -181,13 +184,13 @@ impl<'s> Resolving<'s> {
 
     /// Takes a word.
     fn take(&mut self, word: Token<'s>, next: &'s [u8]) -> Result<(), AllocError>
-        ensures { OnOk result (resolving_of self.new ≡ resolve_next_word (resolving_of self.old) (placed word.entry) next.now) }
+        ensures { OnOk result (resolution_of_parser self.new ≡ resolve_next_word (resolution_of_parser self.old) (placed word.entry) next.now) }
     {
         let awaited = self.awaited;
         self.awaited = Awaited::Any;
         match awaited {
             Awaited::Any => {
-                if begins_definition(word, next) {
+                if is_number_before_constant(word, next) {
                     self.awaited = Awaited::Constant(word);
                     Ok(())
                 } else {
@@ -198,23 +201,26 @@ impl<'s> Resolving<'s> {
                 self.awaited = Awaited::Name(number, word);
                 Ok(())
             }
-            Awaited::Name(number, constant) => self.resolve_definition(number, constant, word),
+            Awaited::Name(number, constant) => self.add_constant_definition(number, constant, word),
         }
     }
 
     /// Adds the fault of a definition without a name.
     fn end(&mut self) -> Result<(), AllocError>
-        ensures { OnOk result (resolving_of self.new ≡ end_resolution (resolving_of self.old)) }
+        ensures { OnOk result (resolution_of_parser self.new ≡ end_resolution (resolution_of_parser self.old)) }
     {
         match self.awaited {
-            Awaited::Name(_, constant) => self.push(fault_token(TokenKind::Missing, constant)),
+            Awaited::Name(_, constant) => self.push(fault_replacing_word(
+                TokenKind::MissingNameOrValue,
+                constant,
+            )),
             Awaited::Any | Awaited::Constant(_) => Ok(()),
         }
     }
 }
 
 /// The number, or the word where there is none.
-fn number_or_word<'s>(number: &'s [u8], word: &'s [u8]) -> &'s [u8]
+fn number_text_or_word<'s>(number: &'s [u8], word: &'s [u8]) -> &'s [u8]
     ensures { result.now ≡ or_word_in number.now word.now }
 {
     if number.is_empty() { word } else { number }
@@ -225,7 +231,7 @@ pub(crate) fn resolve_constants<'s>(
     alloc: Global,
     words: &[Token<'s>],
 ) -> Result<Resolving<'s>, AllocError>
-    ensures { IfOk result (λ all. resolving_of all ≡ constant_resolution (placed_all words.now)) }
+    ensures { IfOk result (λ all. resolution_of_parser all ≡ resolution_of_words (placed_all words.now)) }
 {
     let mut all = Resolving::new(alloc);
     for (i, word) in words.iter().enumerate() {
@@ -237,7 +243,7 @@ pub(crate) fn resolve_constants<'s>(
 
 /// The words without the definitions of constants, which are read as their numbers from there on.
 pub(crate) fn resolve<'s>(alloc: Global, words: &[Token<'s>]) -> Result<Vec<Token<'s>>, AllocError>
-    ensures { IfOk result (λ all. placed_all all.items ≡ without_definitions (placed_all words.now)) }
+    ensures { IfOk result (λ all. placed_all all.items ≡ tokens_without_definitions (placed_all words.now)) }
 {
     let all = resolve_constants(alloc, words)?;
     Ok(all.words)

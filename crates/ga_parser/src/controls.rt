@@ -1,12 +1,12 @@
 //! The control words: loops and jumps ahead.
 
 ghost use Rattle.std.specs.Prelude.{◌≡◌, Ok};
-ghost use Rattle.ga_parser.specs.Asking.{with_added_request, begin_loop as begin_row, begin_jump_ahead as ahead_row, end_loop, end_jump_ahead, end_outer_loop, control_word as control_row, jump_to_label as jump_row, open_control_word_line, ◌▷◌};
-ghost use Rattle.ga_parser.specs.inner.Drafting.{Answers, asking_of};
+ghost use Rattle.ga_parser.specs.Asking.{state_with_added_request, begin_loop as begin_row, begin_jump_ahead as ahead_row, end_loop, end_jump_ahead, end_outer_loop, control_word_requests as control_row, jump_to_label as jump_row, open_control_word_line, ◌▷◌};
+ghost use Rattle.ga_parser.specs.inner.Drafting.{Answers, parse_state_of_builder};
 ghost use Rattle.ga_parser.specs.declared.vocabulary.Control.TheVariants.{Else as ElseWord, Then as ThenWord, NextAround as NextAroundWord, Unext as UnextWord, While as WhileWord, Repeat as RepeatWord, For as ForWord};
 
 use super::draft::RequestBuilder;
-use super::fault::{SourceCause, SourceFault, fault_at};
+use super::fault::{SourceFault, SourceFaultCause, source_fault_at};
 use super::item::{AssemblyItem, AssemblyRequest};
 use super::vocabulary::Control;
 use ga_slots::Op;
@@ -17,7 +17,7 @@ pub(crate) enum Open {
     /// A loop from the label on.
     Loop(u32, usize),
     /// A jump ahead to the label.
-    Ahead(u32, usize),
+    JumpToLaterLabel(u32, usize),
 }
 
 impl Open {
@@ -26,7 +26,7 @@ impl Open {
         ensures { result ≡ open_control_word_line self }
     {
         match self {
-            Open::Loop(line, _) | Open::Ahead(line, _) => line,
+            Open::Loop(line, _) | Open::JumpToLaterLabel(line, _) => line,
         }
     }
 }
@@ -34,7 +34,7 @@ impl Open {
 impl<'s> RequestBuilder<'s> {
     /// What a control word asks for.
     pub(crate) fn control_word(&mut self, line: u32, word: Control) -> Result<(), SourceFault<'s>>
-        ensures { Answers result (control_row (asking_of self.old) line word) (λ _. asking_of self.new) }
+        ensures { Answers result (control_row (parse_state_of_builder self.old) line word) (λ _. parse_state_of_builder self.new) }
     {
         match word {
             Control::Begin => self.begin(line),
@@ -54,35 +54,38 @@ impl<'s> RequestBuilder<'s> {
 
     /// A loop from here on.
     fn begin(&mut self, line: u32) -> Result<(), SourceFault<'s>>
-        ensures { Answers result (Ok (begin_row (asking_of self.old) line)) (λ _. asking_of self.new) }
+        ensures { Answers result (Ok (begin_row (parse_state_of_builder self.old) line)) (λ _. parse_state_of_builder self.new) }
     {
         let label = self.labels.add_anonymous(line, true)?;
-        self.ask(line, AssemblyRequest::Mark(label))?;
+        self.ask(line, AssemblyRequest::MarkLabel(label))?;
         self.open.push(Open::Loop(line, label))?;
         Ok(())
     }
 
     /// `for`: a loop that counts.
     fn begin_for(&mut self, line: u32) -> Result<(), SourceFault<'s>>
-        ensures { Answers result (control_row (asking_of self.old) line ForWord) (λ _. asking_of self.new) }
+        ensures { Answers result (control_row (parse_state_of_builder self.old) line ForWord) (λ _. parse_state_of_builder self.new) }
     {
-        self.ask(line, AssemblyRequest::Put(AssemblyItem::Opcode(Op::Push)))?;
+        self.ask(
+            line,
+            AssemblyRequest::PlaceItem(AssemblyItem::Opcode(Op::Push)),
+        )?;
         self.begin(line)
     }
 
     /// A jump ahead, open until its label is marked.
     fn begin_jump_ahead(&mut self, line: u32, op: Op) -> Result<(), SourceFault<'s>>
-        ensures { Answers result (Ok (ahead_row (asking_of self.old) line op)) (λ _. asking_of self.new) }
+        ensures { Answers result (Ok (ahead_row (parse_state_of_builder self.old) line op)) (λ _. parse_state_of_builder self.new) }
     {
         let label = self.labels.add_anonymous(line, false)?;
         self.jump_to_label(line, op, label)?;
-        self.open.push(Open::Ahead(line, label))?;
+        self.open.push(Open::JumpToLaterLabel(line, label))?;
         Ok(())
     }
 
     /// `else`.
     fn otherwise(&mut self, line: u32) -> Result<(), SourceFault<'s>>
-        ensures { Answers result (control_row (asking_of self.old) line ElseWord) (λ _. asking_of self.new) }
+        ensures { Answers result (control_row (parse_state_of_builder self.old) line ElseWord) (λ _. parse_state_of_builder self.new) }
     {
         let label = self.close_ahead(line)?;
         self.begin_jump_ahead(line, Op::Jump)?;
@@ -91,7 +94,7 @@ impl<'s> RequestBuilder<'s> {
 
     /// `then`.
     fn join(&mut self, line: u32) -> Result<(), SourceFault<'s>>
-        ensures { Answers result (control_row (asking_of self.old) line ThenWord) (λ _. asking_of self.new) }
+        ensures { Answers result (control_row (parse_state_of_builder self.old) line ThenWord) (λ _. parse_state_of_builder self.new) }
     {
         let label = self.close_ahead(line)?;
         self.mark_label(line, label)
@@ -99,7 +102,7 @@ impl<'s> RequestBuilder<'s> {
 
     /// A jump back that ends the innermost loop.
     fn back(&mut self, line: u32, op: Op) -> Result<(), SourceFault<'s>>
-        ensures { Answers result (end_loop (asking_of self.old) line ▷ (λ end. Ok (jump_row end.1 line op end.0))) (λ _. asking_of self.new) }
+        ensures { Answers result (end_loop (parse_state_of_builder self.old) line ▷ (λ end. Ok (jump_row end.1 line op end.0))) (λ _. parse_state_of_builder self.new) }
     {
         let label = self.close_loop(line)?;
         self.jump_to_label(line, op, label)
@@ -107,7 +110,7 @@ impl<'s> RequestBuilder<'s> {
 
     /// `*next`.
     fn next_around(&mut self, line: u32) -> Result<(), SourceFault<'s>>
-        ensures { Answers result (control_row (asking_of self.old) line NextAroundWord) (λ _. asking_of self.new) }
+        ensures { Answers result (control_row (parse_state_of_builder self.old) line NextAroundWord) (λ _. parse_state_of_builder self.new) }
     {
         let label = self.close_around(line)?;
         self.jump_to_label(line, Op::Next, label)
@@ -115,7 +118,7 @@ impl<'s> RequestBuilder<'s> {
 
     /// `unext`.
     fn unext(&mut self, line: u32) -> Result<(), SourceFault<'s>>
-        ensures { Answers result (control_row (asking_of self.old) line UnextWord) (λ _. asking_of self.new) }
+        ensures { Answers result (control_row (parse_state_of_builder self.old) line UnextWord) (λ _. parse_state_of_builder self.new) }
     {
         let label = self.close_loop(line)?;
         self.ask(line, AssemblyRequest::Unext(label))
@@ -123,7 +126,7 @@ impl<'s> RequestBuilder<'s> {
 
     /// `while` and `-while`.
     fn leave(&mut self, line: u32, op: Op) -> Result<(), SourceFault<'s>>
-        ensures { Answers result (control_row (asking_of self.old) line (WhileWord op)) (λ _. asking_of self.new) }
+        ensures { Answers result (control_row (parse_state_of_builder self.old) line (WhileWord op)) (λ _. parse_state_of_builder self.new) }
     {
         let label = self.close_loop(line)?;
         self.begin_jump_ahead(line, op)?;
@@ -133,7 +136,7 @@ impl<'s> RequestBuilder<'s> {
 
     /// `repeat`.
     fn repeat(&mut self, line: u32) -> Result<(), SourceFault<'s>>
-        ensures { Answers result (control_row (asking_of self.old) line RepeatWord) (λ _. asking_of self.new) }
+        ensures { Answers result (control_row (parse_state_of_builder self.old) line RepeatWord) (λ _. parse_state_of_builder self.new) }
     {
         let label = self.close_loop(line)?;
         self.jump_to_label(line, Op::Jump, label)?;
@@ -143,30 +146,30 @@ impl<'s> RequestBuilder<'s> {
 
     /// The label of the innermost open word, which is a loop.
     fn close_loop(&mut self, line: u32) -> Result<usize, SourceFault<'s>>
-        ensures { Answers result (end_loop (asking_of self.old) line) (λ label. (label, asking_of self.new)) }
+        ensures { Answers result (end_loop (parse_state_of_builder self.old) line) (λ label. (label, parse_state_of_builder self.new)) }
     {
         match self.open.pop() {
             Some(Open::Loop(_, label)) => Ok(label),
-            _ => Err(fault_at(line, SourceCause::Unmatched)),
+            _ => Err(source_fault_at(line, SourceFaultCause::UnmatchedControlWord)),
         }
     }
 
     /// The label of the innermost open word, which is a jump ahead.
     fn close_ahead(&mut self, line: u32) -> Result<usize, SourceFault<'s>>
-        ensures { Answers result (end_jump_ahead (asking_of self.old) line) (λ label. (label, asking_of self.new)) }
+        ensures { Answers result (end_jump_ahead (parse_state_of_builder self.old) line) (λ label. (label, parse_state_of_builder self.new)) }
     {
         match self.open.pop() {
-            Some(Open::Ahead(_, label)) => Ok(label),
-            _ => Err(fault_at(line, SourceCause::Unmatched)),
+            Some(Open::JumpToLaterLabel(_, label)) => Ok(label),
+            _ => Err(source_fault_at(line, SourceFaultCause::UnmatchedControlWord)),
         }
     }
 
     /// The label of the loop around the innermost open word, which stays open.
     fn close_around(&mut self, line: u32) -> Result<usize, SourceFault<'s>>
-        ensures { Answers result (end_outer_loop (asking_of self.old) line) (λ label. (label, asking_of self.new)) }
+        ensures { Answers result (end_outer_loop (parse_state_of_builder self.old) line) (λ label. (label, parse_state_of_builder self.new)) }
     {
         let Some(innermost) = self.open.pop() else {
-            return Err(fault_at(line, SourceCause::Unmatched));
+            return Err(source_fault_at(line, SourceFaultCause::UnmatchedControlWord));
         };
         let label = self.close_loop(line)?;
         self.open.push(innermost)?;

@@ -2,15 +2,15 @@
 
 ghost use Rattle.std.specs.Prelude.{◌≡◌, ◌⊎◌, Err, IfOk, IfErr, codes, [], bytes_eq, if◌then◌else◌, slice_index_or};
 ghost use Rattle.ga_slots.specs.declared.op.Op.TheVariants.{Jump, Call};
-ghost use Rattle.ga_parser.specs.declared.fault.SourceCause.TheVariants.{Memory};
-ghost use Rattle.ga_parser.specs.Asking.{requests_of_words, with_carry_bit as carried_of, expects_operand as is_waiting_for};
-ghost use Rattle.ga_parser.specs.Requests.{AreRequestsOfWords, word_refusal};
+ghost use Rattle.ga_parser.specs.declared.fault.SourceFaultCause.TheVariants.{Memory};
+ghost use Rattle.ga_parser.specs.Asking.{requests_of_words, address_with_carry_bit as carried_of, expects_operand as is_waiting_for};
+ghost use Rattle.ga_parser.specs.Requests.{AreRequestsOfWords, refusal_of_source_fault};
 ghost use Rattle.ga_parser.specs.Asking.RefusalCause.{NoNumberHere};
-ghost use Rattle.ga_parser.specs.inner.Drafting.{Answers, asking_of, texts_of};
+ghost use Rattle.ga_parser.specs.inner.Drafting.{Answers, parse_state_of_builder, texts_of_tokens};
 ghost use Rattle.ga_parser.specs.Saying.{token_contents};
 
 use super::controls::Open;
-use super::fault::{NumberRange, SourceCause, SourceFault, fault_at};
+use super::fault::{NumberRange, SourceFault, SourceFaultCause, source_fault_at};
 use super::item::{
     AssemblyItem, AssemblyRequest, InitialRegisters, LocatedRequest, NodeRequests, Operand,
     RegisterValue,
@@ -19,7 +19,7 @@ use super::labels::Labels;
 use super::number::{Number, number_of};
 use super::scan::Token;
 use super::vocabulary::{
-    Directive, Register, control_named, is_reserved, parse_directive, parse_opcode,
+    Directive, Register, control_named, is_reserved_word, parse_directive, parse_opcode,
 };
 use ga_slots::Op;
 use std::alloc::Global;
@@ -50,13 +50,13 @@ pub(crate) struct RequestBuilder<'s> {
 
 impl<'s> RequestBuilder<'s> {
     ghost use Rattle.std.specs.Prelude.{◌≡◌, Ok};
-    ghost use Rattle.ga_parser.specs.Asking.{◌▷◌, initial_parse_state, with_added_request, jump_to_label as jump_row, mark_label as mark_row, value_of_word, label_name_requests, register_requests, org_requests, directive as directive_row, cell as cell_row, call_label as call_row, word_requests, parse_one_word, set_register_once, state_with_mentioned_label, label_number as number_of_label, finished_parse};
+    ghost use Rattle.ga_parser.specs.Asking.{◌▷◌, initial_parse_state, state_with_added_request, jump_to_label as jump_row, mark_label as mark_row, value_of_word, label_name_requests, register_requests, org_requests, directive_requests as directive_row, data_cell_requests as cell_row, call_label as call_row, word_requests, parse_one_word, set_register_once, state_with_mentioned_label, label_number as number_of_label, finish_parse};
     ghost use Rattle.ga_parser.specs.declared.item.Operand.TheVariants.{Label as LabelOf};
-    ghost use Rattle.ga_parser.specs.inner.Drafting.{Answers, asking_of};
+    ghost use Rattle.ga_parser.specs.inner.Drafting.{Answers, parse_state_of_builder};
     ghost use Rattle.ga_parser.specs.Saying.{token_content};
 
     pub(crate) fn new(alloc: Global) -> Self
-        ensures { asking_of result ≡ initial_parse_state }
+        ensures { parse_state_of_builder result ≡ initial_parse_state }
     {
         RequestBuilder {
             asked: Vec::new(alloc),
@@ -73,7 +73,7 @@ impl<'s> RequestBuilder<'s> {
     }
 
     pub(crate) fn ask(&mut self, line: u32, request: AssemblyRequest) -> Result<(), SourceFault<'s>>
-        ensures { Answers result (Ok (with_added_request (asking_of self.old) line request)) (λ _. asking_of self.new) }
+        ensures { Answers result (Ok (state_with_added_request (parse_state_of_builder self.old) line request)) (λ _. parse_state_of_builder self.new) }
     {
         self.asked.push(LocatedRequest { line, request })?;
         Ok(())
@@ -86,35 +86,35 @@ impl<'s> RequestBuilder<'s> {
         op: Op,
         label: usize,
     ) -> Result<(), SourceFault<'s>>
-        ensures { Answers result (Ok (jump_row (asking_of self.old) line op label)) (λ _. asking_of self.new) }
+        ensures { Answers result (Ok (jump_row (parse_state_of_builder self.old) line op label)) (λ _. parse_state_of_builder self.new) }
     {
         let item = if self.labels.is_marked(label) {
-            AssemblyItem::Back(op, label)
+            AssemblyItem::JumpToEarlierLabel(op, label)
         } else {
-            AssemblyItem::Ahead(op, label)
+            AssemblyItem::JumpToLaterLabel(op, label)
         };
-        self.ask(line, AssemblyRequest::Put(item))
+        self.ask(line, AssemblyRequest::PlaceItem(item))
     }
 
     /// The label has its place here.
     pub(crate) fn mark_label(&mut self, line: u32, label: usize) -> Result<(), SourceFault<'s>>
-        ensures { Answers result (mark_row (asking_of self.old) line label) (λ _. asking_of self.new) }
+        ensures { Answers result (mark_row (parse_state_of_builder self.old) line label) (λ _. parse_state_of_builder self.new) }
     {
         if self.labels.is_marked(label) {
-            return Err(fault_at(line, SourceCause::LabelTwice));
+            return Err(source_fault_at(line, SourceFaultCause::LabelTwice));
         }
         self.labels.mark_label(label);
-        self.ask(line, AssemblyRequest::Mark(label))
+        self.ask(line, AssemblyRequest::MarkLabel(label))
     }
 
     /// A number, a port, or the address of a label after an apostrophe.
     #[tactic(auto, unfolding(crate::specs::Asking::value_of_word))]
     fn value(&mut self, line: u32, text: &'s [u8]) -> Result<Option<Operand>, SourceFault<'s>>
-        ensures { Answers result (value_of_word (asking_of self.old) line text.now) (λ found. (found, asking_of self.new)) }
+        ensures { Answers result (value_of_word (parse_state_of_builder self.old) line text.now) (λ found. (found, parse_state_of_builder self.new)) }
     {
         if let [b'\'', name @ ..] = text {
             if name.is_empty() {
-                return Err(fault_at(line, SourceCause::Missing));
+                return Err(source_fault_at(line, SourceFaultCause::MissingNameOrValue));
             }
             let label = self.labels.named(line, name)?;
             return Ok(Some(Operand::Label(label)));
@@ -128,10 +128,10 @@ impl<'s> RequestBuilder<'s> {
 
     #[tactic(auto, unfolding(crate::specs::Asking::label_name_requests))]
     fn name(&mut self, line: u32, name: &'s [u8]) -> Result<(), SourceFault<'s>>
-        ensures { Answers result (label_name_requests (asking_of self.old) line name.now) (λ _. asking_of self.new) }
+        ensures { Answers result (label_name_requests (parse_state_of_builder self.old) line name.now) (λ _. parse_state_of_builder self.new) }
     {
-        if is_reserved(name) {
-            return Err(fault_at(line, SourceCause::Taken));
+        if is_reserved_word(name) {
+            return Err(source_fault_at(line, SourceFaultCause::NameTaken));
         }
         let label = self.labels.named(line, name)?;
         self.mark_label(line, label)
@@ -145,7 +145,7 @@ impl<'s> RequestBuilder<'s> {
         register: Register,
         text: &'s [u8],
     ) -> Result<(), SourceFault<'s>>
-        ensures { Answers result (register_requests (asking_of self.old) line register text.now) (λ _. asking_of self.new) }
+        ensures { Answers result (register_requests (parse_state_of_builder self.old) line register text.now) (λ _. parse_state_of_builder self.new) }
     {
         let value = match number_of(text) {
             Number::Of(number) => {
@@ -156,8 +156,8 @@ impl<'s> RequestBuilder<'s> {
             }
             Number::OutOfRange => return Err(out_of_range(line, text, register.range())),
             Number::Nothing => {
-                if is_reserved(text) {
-                    return Err(fault_at(line, SourceCause::Missing));
+                if is_reserved_word(text) {
+                    return Err(source_fault_at(line, SourceFaultCause::MissingNameOrValue));
                 }
                 Operand::Label(self.labels.named(line, text)?)
             }
@@ -169,19 +169,19 @@ impl<'s> RequestBuilder<'s> {
             Register::B => mem::replace(&mut self.registers.b, given),
         };
         if before.is_some() {
-            return Err(fault_at(line, SourceCause::RegisterTwice));
+            return Err(source_fault_at(line, SourceFaultCause::RegisterTwice));
         }
         Ok(())
     }
 
     fn directive(&mut self, line: u32, directive: Directive) -> Result<(), SourceFault<'s>>
-        ensures { Answers result (Ok (directive_row (asking_of self.old) line directive)) (λ _. asking_of self.new) }
+        ensures { Answers result (Ok (directive_row (parse_state_of_builder self.old) line directive)) (λ _. parse_state_of_builder self.new) }
     {
         match directive {
             Directive::Label => self.expect = Expect::Name,
             Directive::Address => self.expect = Expect::Address,
             Directive::Register(register) => self.expect = Expect::Register(register),
-            Directive::Fill => self.ask(line, AssemblyRequest::Fill)?,
+            Directive::BeginNewCell => self.ask(line, AssemblyRequest::BeginNewCell)?,
             Directive::Carry(is_set) => {
                 self.carries = is_set;
                 self.ask(line, AssemblyRequest::Carry(is_set))?;
@@ -192,42 +192,42 @@ impl<'s> RequestBuilder<'s> {
 
     #[tactic(auto, unfolding(crate::specs::Asking::org_requests))]
     fn address(&mut self, line: u32, text: &'s [u8]) -> Result<(), SourceFault<'s>>
-        ensures { Answers result (org_requests (asking_of self.old) line text.now) (λ _. asking_of self.new) }
+        ensures { Answers result (org_requests (parse_state_of_builder self.old) line text.now) (λ _. parse_state_of_builder self.new) }
     {
         match number_of(text) {
             Number::Of(found) => {
                 if found < 0x40 || 0x80 <= found && found < 0xc0 {
                     self.ask(
                         line,
-                        AssemblyRequest::Go(with_carry_bit(self.carries, found)),
+                        AssemblyRequest::GoToAddress(address_with_carry_bit(self.carries, found)),
                     )
                 } else {
                     Err(out_of_range(line, text, NumberRange::Cell))
                 }
             }
             Number::OutOfRange => Err(out_of_range(line, text, NumberRange::Cell)),
-            Number::Nothing => Err(fault_at(line, SourceCause::Missing)),
+            Number::Nothing => Err(source_fault_at(line, SourceFaultCause::MissingNameOrValue)),
         }
     }
 
     /// A cell with a value.
     fn cell(&mut self, line: u32, text: &'s [u8]) -> Result<(), SourceFault<'s>>
-        ensures { Answers result (value_of_word (asking_of self.old) line text.now ▷ (λ said. cell_row said.1 line said.0)) (λ _. asking_of self.new) }
+        ensures { Answers result (value_of_word (parse_state_of_builder self.old) line text.now ▷ (λ said. cell_row said.1 line said.0)) (λ _. parse_state_of_builder self.new) }
     {
         let Some(value) = self.value(line, text)? else {
-            return Err(fault_at(line, SourceCause::Missing));
+            return Err(source_fault_at(line, SourceFaultCause::MissingNameOrValue));
         };
         self.expect = Expect::Nothing;
-        self.ask(line, AssemblyRequest::Put(AssemblyItem::Cell(value)))
+        self.ask(line, AssemblyRequest::PlaceItem(AssemblyItem::Cell(value)))
     }
 
     /// A call of a label, or a jump there where `;` is next.
     #[tactic(auto, unfolding(crate::specs::Asking::call_label))]
     fn call_label(&mut self, line: u32, name: &'s [u8], next: &[u8]) -> Result<(), SourceFault<'s>>
-        ensures { Answers result (call_row (asking_of self.old) line name.now next.now) (λ _. asking_of self.new) }
+        ensures { Answers result (call_row (parse_state_of_builder self.old) line name.now next.now) (λ _. parse_state_of_builder self.new) }
     {
-        if is_reserved(name) {
-            return Err(fault_at(line, SourceCause::Unknown(name)));
+        if is_reserved_word(name) {
+            return Err(source_fault_at(line, SourceFaultCause::UnknownWord(name)));
         }
         let label = self.labels.named(line, name)?;
         let op = calling_op(next);
@@ -240,7 +240,7 @@ impl<'s> RequestBuilder<'s> {
     /// A word without arguments. The next word decides whether it is a cell, and whether a call is a jump.
     #[tactic(auto, unfolding(crate::specs::Asking::word_requests))]
     fn word(&mut self, line: u32, text: &'s [u8], next: &[u8]) -> Result<(), SourceFault<'s>>
-        ensures { Answers result (word_requests (asking_of self.old) line text.now next.now) (λ _. asking_of self.new) }
+        ensures { Answers result (word_requests (parse_state_of_builder self.old) line text.now next.now) (λ _. parse_state_of_builder self.new) }
     {
         if next == b",".as_slice() {
             return self.cell(line, text);
@@ -249,19 +249,22 @@ impl<'s> RequestBuilder<'s> {
             return self.directive(line, directive);
         }
         if let Some(op) = parse_opcode(text) {
-            return self.ask(line, AssemblyRequest::Put(AssemblyItem::Opcode(op)));
+            return self.ask(line, AssemblyRequest::PlaceItem(AssemblyItem::Opcode(op)));
         }
         if let Some(control_word) = control_named(text) {
             return self.control_word(line, control_word);
         }
         if let Some(value) = self.value(line, text)? {
-            return self.ask(line, AssemblyRequest::Put(AssemblyItem::Literal(value)));
+            return self.ask(
+                line,
+                AssemblyRequest::PlaceItem(AssemblyItem::Literal(value)),
+            );
         }
         self.call_label(line, text, next)
     }
 
     pub(crate) fn take(&mut self, token: Token<'s>, next: &[u8]) -> Result<(), SourceFault<'s>>
-        ensures { Answers result (parse_one_word (asking_of self.old) (token_content token.entry) next.now) (λ _. asking_of self.new) }
+        ensures { Answers result (parse_one_word (parse_state_of_builder self.old) (token_content token.entry) next.now) (λ _. parse_state_of_builder self.new) }
     {
         let text = token.word()?;
         let expect = self.expect;
@@ -276,15 +279,15 @@ impl<'s> RequestBuilder<'s> {
     }
 
     /// What is missing or still open after the last word, and a name that is no label's.
-    #[tactic(auto, unfolding(crate::specs::Asking::refuse_unclosed))]
+    #[tactic(auto, unfolding(crate::specs::Asking::refuse_unclosed_word))]
     fn finish(&self, line: u32) -> Result<(), SourceFault<'s>>
-        ensures { Answers result (finished_parse (asking_of self.now) line) (λ _. asking_of self.now) }
+        ensures { Answers result (finish_parse (parse_state_of_builder self.now) line) (λ _. parse_state_of_builder self.now) }
     {
         if expects_operand(self.expect) {
-            return Err(fault_at(line, SourceCause::Missing));
+            return Err(source_fault_at(line, SourceFaultCause::MissingNameOrValue));
         }
         if let Some(open) = self.open.first() {
-            return Err(fault_at(open.line(), SourceCause::Open));
+            return Err(source_fault_at(open.line(), SourceFaultCause::UnclosedControlWord));
         }
         self.labels.check()
     }
@@ -292,9 +295,9 @@ impl<'s> RequestBuilder<'s> {
 
 /// A number that its place doesn't take.
 fn out_of_range(line: u32, text: &[u8], range: NumberRange) -> SourceFault<'_>
-    ensures { word_refusal result ≡ record { line = line; wrong = NoNumberHere text.entry.now range } }
+    ensures { refusal_of_source_fault result ≡ record { line = line; wrong = NoNumberHere text.entry.now range } }
 {
-    fault_at(line, SourceCause::Number(text, range))
+    source_fault_at(line, SourceFaultCause::OperandOutOfRange(text, range))
 }
 
 /// Whether a word is missing.
@@ -320,7 +323,7 @@ fn calling_op(next: &[u8]) -> Op
 
 /// The text of a token, empty where there is none.
 pub(crate) fn text_at<'s>(tokens: &[Token<'s>], i: usize) -> &'s [u8]
-    ensures { result.now ≡ slice_index_or (texts_of tokens.now) i [] }
+    ensures { result.now ≡ slice_index_or (texts_of_tokens tokens.now) i [] }
 {
     match tokens.get(i) {
         Some(token) => token.text,
@@ -334,7 +337,7 @@ fn read_node<'s>(
     line: u32,
     tokens: &[Token<'s>],
 ) -> Result<RequestBuilder<'s>, SourceFault<'s>>
-    ensures { Answers result (requests_of_words line (token_contents tokens.now)) asking_of }
+    ensures { Answers result (requests_of_words line (token_contents tokens.now)) parse_state_of_builder }
 {
     let mut draft = RequestBuilder::new(alloc);
     let mut last = line;
@@ -347,7 +350,7 @@ fn read_node<'s>(
 }
 
 /// An address with this bit 9.
-pub fn with_carry_bit(is_set: bool, address: u32) -> u32
+pub fn address_with_carry_bit(is_set: bool, address: u32) -> u32
     ensures { result ≡ carried_of is_set address }
 {
     (if is_set { 512 } else { 0 }) + address % 512
@@ -358,13 +361,13 @@ pub fn with_carry_bit(is_set: bool, address: u32) -> u32
 /// # Errors
 /// The first fault of a word, otherwise a word that is missing at the end, a control word that is open, a name that is no
 /// label's; or an allocation failed.
-pub fn read_requests<'s>(
+pub fn read_requests_of_node_words<'s>(
     alloc: Global,
     line: u32,
     tokens: &[Token<'s>],
 ) -> Result<NodeRequests<'s>, SourceFault<'s>>
     ensures asked { IfOk result (AreRequestsOfWords line (token_contents tokens.now)) }
-    ensures refused { IfErr result (λ fault. (fault.cause ≡ Memory) ⊎ (requests_of_words line (token_contents tokens.now) ≡ Err (word_refusal fault))) }
+    ensures refused { IfErr result (λ fault. (fault.cause ≡ Memory) ⊎ (requests_of_words line (token_contents tokens.now) ≡ Err (refusal_of_source_fault fault))) }
 {
     let RequestBuilder {
         asked,

@@ -2,20 +2,20 @@
 
 ghost use Rattle.std.specs.Prelude.{◌≡◌, ◌≤◌, ◌++◌, ℕ, length, drop, map, flat_map, option_map, IfOk, OnOk};
 ghost use Rattle.ga_grid.specs.Grid.{node_id};
-ghost use Rattle.ga_parser.specs.Expectations.{named_nodes, is_node_name as is_name_in, nodes_after_word, no_node_group, group_after_word, node_group_before_line, nodes_before_line, expectation_text as text_of_words, expectation_content, expectation_of_tokens, expectations_of_resolution, expectation_lines as lines_of_source};
+ghost use Rattle.ga_parser.specs.Expectations.{nodes_of_name, is_node_name as is_name_in, nodes_after_word, no_node_group, node_group_after_word, node_group_before_line, nodes_before_line, expectation_text as text_of_words, expectation_content, expectation_of_tokens, expectations_of_resolution, expectation_lines as lines_of_source};
 ghost use Rattle.ga_parser.specs.Plain.{named_node_number};
-ghost use Rattle.ga_parser.specs.Saying.{source_lines, token_contents, all_tokens_of_line};
-ghost use Rattle.ga_parser.specs.inner.Expecting.{group_of, words_from, spaced_token};
-ghost use Rattle.ga_parser.specs.inner.Grouping.{begun_of};
+ghost use Rattle.ga_parser.specs.Saying.{source_lines, token_contents, tokens_of_line_with_expectation};
+ghost use Rattle.ga_parser.specs.inner.Expecting.{node_group_of_parser, words_from, space_and_resolved_word};
+ghost use Rattle.ga_parser.specs.inner.Grouping.{node_naming_of_parser};
 ghost use Rattle.ga_parser.specs.inner.Placing.{placed, placed_all};
-ghost use Rattle.ga_parser.specs.inner.Resolving.{known_of, resolving_of};
+ghost use Rattle.ga_parser.specs.inner.Resolving.{known_names_of_parser, resolution_of_parser};
 
 use super::constants::{Resolving, resolve_constants};
-use super::groups::{Naming, begins, is_further_node_name, naming_after_word};
+use super::groups::{Naming, begins, is_further_node_name, node_naming_after_word};
 use super::scan::{
     Token, begins_expectation, scan_all_of_line, scanned_words, stripped_source_line,
 };
-use ga_grid::{NodeId, parse_node_name};
+use ga_grid::{NodeId, parse_decimal_name};
 use ga_text::first_line;
 use std::alloc::{AllocError, Global};
 
@@ -41,12 +41,12 @@ pub(crate) struct NamedGroup<'s> {
 fn node_named(text: &[u8]) -> Option<NodeId>
     ensures { result ≡ option_map node_id (named_node_number text.now) }
 {
-    NodeId::from_yxx(parse_node_name(text)?)
+    NodeId::from_decimal_name(parse_decimal_name(text)?)
 }
 
 /// Adds the node of a name, if there is one.
 fn add_named(nodes: &mut Vec<NodeId>, text: &[u8]) -> Result<(), AllocError>
-    ensures { OnOk result (nodes.new.items ≡ nodes.old.items ++ named_nodes text.now) }
+    ensures { OnOk result (nodes.new.items ≡ nodes.old.items ++ nodes_of_name text.now) }
 {
     if let Some(node) = node_named(text) {
         nodes.push(node)?;
@@ -56,7 +56,7 @@ fn add_named(nodes: &mut Vec<NodeId>, text: &[u8]) -> Result<(), AllocError>
 
 /// Whether a word names a node: it comes after `node`, or is a further name.
 fn is_node_name(naming: Naming<'_>, word: &Token<'_>) -> bool
-    ensures { result ≡ is_name_in (begun_of naming.entry) (placed word.now) }
+    ensures { result ≡ is_name_in (node_naming_of_parser naming.entry) (placed word.now) }
 {
     match naming {
         Naming::Nothing => false,
@@ -67,12 +67,12 @@ fn is_node_name(naming: Naming<'_>, word: &Token<'_>) -> bool
 
 impl<'s> NamedGroup<'s> {
     ghost use Rattle.std.specs.Prelude.{◌≡◌, OnOk};
-    ghost use Rattle.ga_parser.specs.Expectations.{nodes_after_word, group_after_word, no_node_group};
-    ghost use Rattle.ga_parser.specs.inner.Expecting.{group_of};
+    ghost use Rattle.ga_parser.specs.Expectations.{nodes_after_word, node_group_after_word, no_node_group};
+    ghost use Rattle.ga_parser.specs.inner.Expecting.{node_group_of_parser};
     ghost use Rattle.ga_parser.specs.inner.Placing.{placed};
 
     fn new(alloc: Global) -> Self
-        ensures { group_of result ≡ no_node_group }
+        ensures { node_group_of_parser result ≡ no_node_group }
     {
         NamedGroup {
             naming: Naming::Nothing,
@@ -83,7 +83,7 @@ impl<'s> NamedGroup<'s> {
     /// Takes the node that a word names.
     fn name(&mut self, word: Token<'s>) -> Result<(), AllocError>
         ensures naming { self.new.naming ≡ self.old.naming }
-        ensures nodes { OnOk result (self.new.nodes.items ≡ nodes_after_word (group_of self.old) (placed word.entry)) }
+        ensures nodes { OnOk result (self.new.nodes.items ≡ nodes_after_word (node_group_of_parser self.old) (placed word.entry)) }
     {
         if begins(&word) {
             self.nodes.clear();
@@ -97,10 +97,10 @@ impl<'s> NamedGroup<'s> {
 
     /// Takes a word.
     fn take(&mut self, word: Token<'s>) -> Result<(), AllocError>
-        ensures { OnOk result (group_of self.new ≡ group_after_word (group_of self.old) (placed word.entry)) }
+        ensures { OnOk result (node_group_of_parser self.new ≡ node_group_after_word (node_group_of_parser self.old) (placed word.entry)) }
     {
         self.name(word)?;
-        self.naming = naming_after_word(self.naming, word);
+        self.naming = node_naming_after_word(self.naming, word);
         Ok(())
     }
 }
@@ -113,7 +113,7 @@ fn take_before<'s>(
     line: u32,
 ) -> Result<usize, AllocError>
     requires { from ≤ length words.now }
-    ensures group { OnOk result (group_of group.new ≡ node_group_before_line line (group_of group.old) (placed_all (drop from words.now))) }
+    ensures group { OnOk result (node_group_of_parser group.new ≡ node_group_before_line line (node_group_of_parser group.old) (placed_all (drop from words.now))) }
     ensures left { IfOk result (λ next. placed_all (drop next words.now) ≡ words_from line (placed_all (drop from words.now))) }
     ensures within { IfOk result (λ next. next ≤ length words.now) }
 {
@@ -133,7 +133,7 @@ fn push_spaced<'s>(
     resolved: &Resolving<'s>,
     words: &[Token<'s>],
 ) -> Result<(), AllocError>
-    ensures { OnOk result (text.new.items ≡ text.old.items ++ flat_map (spaced_token (known_of resolved.now)) words.now) }
+    ensures { OnOk result (text.new.items ≡ text.old.items ++ flat_map (space_and_resolved_word (known_names_of_parser resolved.now)) words.now) }
 {
     for word in words {
         text.push(b' ')?;
@@ -149,7 +149,7 @@ fn expectation_text<'s>(
     resolved: &Resolving<'s>,
     words: &[Token<'s>],
 ) -> Result<Vec<u8>, AllocError>
-    ensures { IfOk result (λ text. text.items ≡ text_of_words (known_of resolved.now) (token_contents words.now)) }
+    ensures { IfOk result (λ text. text.items ≡ text_of_words (known_names_of_parser resolved.now) (token_contents words.now)) }
 {
     let mut text = Vec::new(alloc);
     let [_, first, rest @ ..] = words else {
@@ -173,9 +173,9 @@ fn add_line<'s>(
 ) -> Result<usize, AllocError>
     requires { from ≤ length resolved.now.words.items }
     ensures lines { OnOk result (map expectation_content all.new.items ≡ map expectation_content all.old.items
-        ++ expectation_of_tokens (known_of resolved.now) (node_group_before_line line (group_of group.old) (placed_all (drop from resolved.now.words.items))).nodes line (all_tokens_of_line line text.now)) }
-    ensures left { IfOk result (λ next. (later : ℕ) → line ≤ later → node_group_before_line later (group_of group.new) (placed_all (drop next resolved.now.words.items))
-        ≡ node_group_before_line later (group_of group.old) (placed_all (drop from resolved.now.words.items))) }
+        ++ expectation_of_tokens (known_names_of_parser resolved.now) (node_group_before_line line (node_group_of_parser group.old) (placed_all (drop from resolved.now.words.items))).nodes line (tokens_of_line_with_expectation line text.now)) }
+    ensures left { IfOk result (λ next. (later : ℕ) → line ≤ later → node_group_before_line later (node_group_of_parser group.new) (placed_all (drop next resolved.now.words.items))
+        ≡ node_group_before_line later (node_group_of_parser group.old) (placed_all (drop from resolved.now.words.items))) }
     ensures within { IfOk result (λ next. next ≤ length resolved.now.words.items) }
 {
     let mut said = Vec::new(alloc);
@@ -198,7 +198,7 @@ fn read_lines<'s>(
     resolved: &Resolving<'s>,
     source: &'s [u8],
 ) -> Result<Vec<ExpectationLine>, AllocError>
-    ensures { IfOk result (λ lines. map expectation_content lines.items ≡ expectations_of_resolution (resolving_of resolved.now) (source_lines source.now)) }
+    ensures { IfOk result (λ lines. map expectation_content lines.items ≡ expectations_of_resolution (resolution_of_parser resolved.now) (source_lines source.now)) }
 {
     let mut all = Vec::new(alloc);
     let mut group = NamedGroup::new(alloc);

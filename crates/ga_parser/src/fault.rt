@@ -20,7 +20,7 @@ pub enum NumberRange {
 
 /// What is wrong.
 #[derive(Clone, Copy, PartialEq, Eq, Debug, Error)]
-pub enum SourceCause<'s> {
+pub enum SourceFaultCause<'s> {
     #[error("no memory")]
     Memory,
     #[error("the line has more than 200 bytes")]
@@ -28,18 +28,18 @@ pub enum SourceCause<'s> {
     #[error("a comment without its )")]
     OpenComment,
     #[error("no node has begun")]
-    NoNode,
+    NoNodeBegun,
     #[error("no such node")]
     NoSuchNode,
     #[error("the node has a program already")]
     NodeTwice,
     /// No opcode, control word, number or port has this name, and no label of the node.
     #[error("what is this")]
-    Unknown(&'s [u8]),
+    UnknownWord(&'s [u8]),
     #[error("the name is taken")]
-    Taken,
+    NameTaken,
     #[error("a name or a value is missing")]
-    Missing,
+    MissingNameOrValue,
     #[error("no number from -131072 to 262143 before constant")]
     NoNumber,
     #[error("the label stands twice")]
@@ -47,57 +47,57 @@ pub enum SourceCause<'s> {
     #[error("the register is given twice")]
     RegisterTwice,
     #[error("nothing is open that this closes")]
-    Unmatched,
+    UnmatchedControlWord,
     #[error("this is never closed")]
-    Open,
+    UnclosedControlWord,
     /// A word that says a number, or a label that has an address, which the place doesn't take.
     #[error("number out of range")]
-    Number(&'s [u8], NumberRange),
+    OperandOutOfRange(&'s [u8], NumberRange),
     /// A cell that a line gave already: 00 to 3f of RAM, 80 to bf of ROM.
     #[error("cell {cell:03x} given before on line {line} (org {cell} is {cell:03x})")]
     CellTwice { cell: u32, line: u32 },
     /// The address at which no memory is.
     #[error("{0:03x} is past the end of RAM or ROM")]
-    Past(u32),
+    PastMemoryEnd(u32),
     /// The address of the jump's cell, and the one that it can't lead to.
     #[error("{target:03x} is out of reach of a jump in {cell:03x}")]
-    Reach { cell: u32, target: u32 },
+    JumpOutOfReach { cell: u32, target: u32 },
     /// The address of the cell of `unext`.
     #[error("the loop of unext in {0:03x} is longer than its cell")]
-    Loop(u32),
+    UnextOutOfReach(u32),
 }
 
 /// A fault of a text, and its line from 1 on; 0 where memory was refused.
 #[derive(Clone, Copy, PartialEq, Eq, Debug)]
 pub struct SourceFault<'s> {
     pub line: u32,
-    pub cause: SourceCause<'s>,
+    pub cause: SourceFaultCause<'s>,
 }
 
 impl<'s> From<AllocError> for SourceFault<'s> {
     ghost use Rattle.std.specs.Prelude.{◌≡◌};
-    ghost use Rattle.ga_parser.specs.declared.fault.SourceCause.TheVariants.{Memory};
+    ghost use Rattle.ga_parser.specs.declared.fault.SourceFaultCause.TheVariants.{Memory};
 
     ghost from_gives = { λ _ fault. fault.cause ≡ Memory };
 
     fn from(_refused: AllocError) -> Self {
-        fault_at(0, SourceCause::Memory)
+        source_fault_at(0, SourceFaultCause::Memory)
     }
 }
 
 impl<'s, T: Drop> From<AllocFailed<T>> for SourceFault<'s> {
     ghost use Rattle.std.specs.Prelude.{◌≡◌};
-    ghost use Rattle.ga_parser.specs.declared.fault.SourceCause.TheVariants.{Memory};
+    ghost use Rattle.ga_parser.specs.declared.fault.SourceFaultCause.TheVariants.{Memory};
 
     ghost from_gives = { λ _ fault. fault.cause ≡ Memory };
 
     fn from(_refused: AllocFailed<T>) -> Self {
-        fault_at(0, SourceCause::Memory)
+        source_fault_at(0, SourceFaultCause::Memory)
     }
 }
 
 /// A fault at a line.
-pub fn fault_at(line: u32, cause: SourceCause<'_>) -> SourceFault<'_>
+pub fn source_fault_at(line: u32, cause: SourceFaultCause<'_>) -> SourceFault<'_>
     ensures line { result.line ≡ line }
     ensures cause { result.cause ≡ cause.entry }
 {

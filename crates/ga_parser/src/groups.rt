@@ -1,13 +1,13 @@
 //! Words in which each node has a `node` of its own.
 
 ghost use Rattle.std.specs.Prelude.{◌≡◌, ◌++◌, IfOk, OnOk};
-ghost use Rattle.ga_parser.specs.Groups.{expand_node_groups as grouped_by, begins_node as begins_by, is_further_node_name as is_further_by, naming_after_word as begun_by, words_after_names as behind_names_in, words_before_next_node as body_words, words_before_name};
-ghost use Rattle.ga_parser.specs.Groups.NodeNaming.{Nothing};
+ghost use Rattle.ga_parser.specs.Groups.{expand_node_groups as grouped_by, begins_node as begins_by, is_further_node_name as is_further_by, node_naming_after_word as begun_by, words_after_names as behind_names_in, words_before_next_node as body_words, words_inserted_before_name};
+ghost use Rattle.ga_parser.specs.Groups.NodeNamingProgress.{Nothing};
 ghost use Rattle.ga_parser.specs.inner.Placing.{placed, placed_all};
-ghost use Rattle.ga_parser.specs.inner.Grouping.{begun_of};
+ghost use Rattle.ga_parser.specs.inner.Grouping.{node_naming_of_parser};
 
 use super::scan::{Token, TokenKind};
-use ga_grid::parse_node_name;
+use ga_grid::parse_decimal_name;
 use std::alloc::{AllocError, Global};
 
 /// What comes before a word.
@@ -32,12 +32,14 @@ pub(crate) fn begins(word: &Token<'_>) -> bool
 pub(crate) fn is_further_node_name(node: Token<'_>, word: &Token<'_>) -> bool
     ensures { result ≡ is_further_by (placed node.entry) (placed word.now) }
 {
-    word.kind == TokenKind::Word && word.line == node.line && parse_node_name(word.text).is_some()
+    word.kind == TokenKind::Word
+        && word.line == node.line
+        && parse_decimal_name(word.text).is_some()
 }
 
 /// What comes before the next word.
-pub(crate) fn naming_after_word<'s>(begun: Naming<'s>, word: Token<'s>) -> Naming<'s>
-    ensures { begun_of result ≡ begun_by (begun_of begun.entry) (placed word.entry) }
+pub(crate) fn node_naming_after_word<'s>(begun: Naming<'s>, word: Token<'s>) -> Naming<'s>
+    ensures { node_naming_of_parser result ≡ begun_by (node_naming_of_parser begun.entry) (placed word.entry) }
 {
     if begins(&word) {
         return Naming::Node(word);
@@ -87,7 +89,7 @@ fn push_before<'s>(
     word: &Token<'s>,
     rest: &[Token<'s>],
 ) -> Result<(), AllocError>
-    ensures { OnOk result (placed_all all.new.items ≡ placed_all all.old.items ++ words_before_name is_whole (begun_of begun.entry) (placed word.now) (placed_all rest.now)) }
+    ensures { OnOk result (placed_all all.new.items ≡ placed_all all.old.items ++ words_inserted_before_name is_whole (node_naming_of_parser begun.entry) (placed word.now) (placed_all rest.now)) }
 {
     let Naming::Name(node) = begun else {
         return Ok(());
@@ -116,7 +118,7 @@ pub(crate) fn expand_node_groups<'s>(
     for (i, word) in words.iter().enumerate() {
         push_before(&mut all, is_whole, begun, word, words.split_at(i + 1).1)?;
         all.push(*word)?;
-        begun = naming_after_word(begun, *word);
+        begun = node_naming_after_word(begun, *word);
     }
     Ok(all)
 }

@@ -3,17 +3,17 @@
 ghost use Rattle.std.specs.List.{list_all};
 ghost use Rattle.std.specs.Prelude.{◌≡◌, ◌≤◌, true, [], ◌++◌, ℕ, List, length, map, option_map, IfSome};
 ghost use Rattle.ga_parser.specs.Vocabulary.{find_in_table};
-ghost use Rattle.ga_parser.specs.Hints.{foreign_spelling, find_probable_word, first_probable_name, is_probable_name, digits_after_dollar, name_after_colon, word_before_byte, number_before_comma, local_spelling, hint_for, hint_text, IsShortHint};
-ghost use Rattle.ga_parser.specs.inner.Hinting.{row_of, name_of, is_short_row, is_short_name};
+ghost use Rattle.ga_parser.specs.Hints.{foreign_spelling, find_probable_word, first_probable_name, is_probable_misspelling, digits_after_dollar, name_after_colon, word_before_final_byte, number_before_comma, local_spelling, hint_for_word, hint_text, IsShortHint};
+ghost use Rattle.ga_parser.specs.inner.Hinting.{row_of, name_of_known_word, has_short_hint, is_short_name};
 
-use super::hint_words::{ForeignWord, KnownWord, foreign_words, known_words};
+use super::hint_words::{ForeignWord, KnownWord, foreign_words, known_source_words};
 use super::nearness::{is_same_ignoring_case, is_within_one_edit};
 use super::number::{digits, number_of};
 use super::vocabulary::is_number;
 
 /// What to write instead of a word: three texts, one after another.
 #[derive(Clone, Copy, PartialEq, Eq, Debug)]
-pub struct Hint<'s> {
+pub struct SpellingHint<'s> {
     pub before: &'static [u8],
     pub word: &'s [u8],
     pub behind: &'static [u8],
@@ -30,7 +30,7 @@ fn foreign_spelling(word: &[u8]) -> Option<&'static [u8]>
 
 #[tactic(auto, using(crate::proofs::Hinting::row_here, crate::proofs::Hinting::row_behind, crate::proofs::Hinting::short_row, std::proofs::lemmas::List::drop_all))]
 fn said_here(rows: &'static [ForeignWord], word: &[u8]) -> Option<&'static [u8]>
-    requires { list_all is_short_row rows.now ≡ true }
+    requires { list_all has_short_hint rows.now ≡ true }
     ensures text { option_map (λ text. text.now) result ≡ find_in_table (map row_of rows.now) word.now }
     ensures short { IfSome result (λ text. length text.now ≤ 64) }
 {
@@ -48,17 +48,17 @@ fn find_probable_word(word: &[u8]) -> Option<&'static [u8]>
     ensures text { option_map (λ text. text.now) result ≡ find_probable_word word.now }
     ensures short { IfSome result (λ text. length text.now ≤ 64) }
 {
-    meant_among(known_words(), word)
+    meant_among(known_source_words(), word)
 }
 
 #[tactic(auto, using(crate::proofs::Hinting::meant_here, crate::proofs::Hinting::meant_behind, crate::proofs::Hinting::short_name, std::proofs::lemmas::List::drop_all), unfolding(crate::specs::Hints::first_probable_name))]
 fn meant_among(names: &'static [KnownWord], word: &[u8]) -> Option<&'static [u8]>
     requires { list_all is_short_name names.now ≡ true }
-    ensures text { option_map (λ text. text.now) result ≡ first_probable_name word.now (map name_of names.now) }
+    ensures text { option_map (λ text. text.now) result ≡ first_probable_name word.now (map name_of_known_word names.now) }
     ensures short { IfSome result (λ text. length text.now ≤ 64) }
 {
     'names: for known in names {
-        if is_probable_name(word, known.name) {
+        if is_probable_misspelling(word, known.name) {
             return Some(known.name);
         }
     }
@@ -66,8 +66,8 @@ fn meant_among(names: &'static [KnownWord], word: &[u8]) -> Option<&'static [u8]
 }
 
 /// Whether a name was meant by a word: they differ in upper case alone, or, where the name has four letters or more, in one letter.
-fn is_probable_name(word: &[u8], name: &[u8]) -> bool
-    ensures { result ≡ is_probable_name word.now name.now }
+fn is_probable_misspelling(word: &[u8], name: &[u8]) -> bool
+    ensures { result ≡ is_probable_misspelling word.now name.now }
 {
     is_same_ignoring_case(word, name) || name.len() > 3 && is_within_one_edit(word, name)
 }
@@ -85,8 +85,8 @@ fn digits_after_dollar(word: &[u8]) -> Option<&[u8]>
 }
 
 /// The part before the byte with which a word ends.
-fn word_before_byte(end: u8, word: &[u8]) -> Option<&[u8]>
-    ensures text { option_map (λ text. text.now) result ≡ word_before_byte end word.now }
+fn word_before_final_byte(end: u8, word: &[u8]) -> Option<&[u8]>
+    ensures text { option_map (λ text. text.now) result ≡ word_before_final_byte end word.now }
     ensures short { IfSome result (λ text. length text.now ≤ length word.now) }
 {
     match word {
@@ -111,7 +111,7 @@ fn number_before_comma(word: &[u8]) -> Option<&[u8]>
     ensures text { option_map (λ text. text.now) result ≡ number_before_comma word.now }
     ensures short { IfSome result (λ text. length text.now ≤ length word.now) }
 {
-    let rest = word_before_byte(b',', word)?;
+    let rest = word_before_final_byte(b',', word)?;
     if is_number(number_of(rest)) {
         Some(rest)
     } else {
@@ -121,7 +121,7 @@ fn number_before_comma(word: &[u8]) -> Option<&[u8]>
 
 /// A word that was spelled as elsewhere, or without a blank, as it is spelled here.
 #[tactic(auto, using(crate::proofs::Hinting::text_alone), unfolding(crate::specs::Hints::local_spelling))]
-fn local_spelling(word: &[u8]) -> Option<Hint<'_>>
+fn local_spelling(word: &[u8]) -> Option<SpellingHint<'_>>
     ensures text { option_map hint_text result ≡ local_spelling word.now }
     ensures short { IfSome result (IsShortHint word.now) }
 {
@@ -131,10 +131,10 @@ fn local_spelling(word: &[u8]) -> Option<Hint<'_>>
     if let Some(digits) = digits_after_dollar(word) {
         return Some(hinted(b"0x", digits, b""));
     }
-    if let Some(name) = word_before_byte(b';', word) {
+    if let Some(name) = word_before_final_byte(b';', word) {
         return Some(hinted(b"", name, b" ;"));
     }
-    if let Some(name) = word_before_byte(b':', word) {
+    if let Some(name) = word_before_final_byte(b':', word) {
         return Some(hinted(b": ", name, b""));
     }
     if let Some(name) = name_after_colon(word) {
@@ -146,13 +146,13 @@ fn local_spelling(word: &[u8]) -> Option<Hint<'_>>
     None
 }
 
-fn hinted<'s>(before: &'static [u8], word: &'s [u8], behind: &'static [u8]) -> Hint<'s>
+fn hinted<'s>(before: &'static [u8], word: &'s [u8], behind: &'static [u8]) -> SpellingHint<'s>
     requires before { length before.now ≤ 64 }
     requires behind { length behind.now ≤ 64 }
     ensures text { hint_text result ≡ before.entry.now ++ (word.entry.now ++ behind.entry.now) }
     ensures short { (text : List ℕ) → length word.entry.now ≤ length text → IsShortHint text result }
 {
-    Hint {
+    SpellingHint {
         before,
         word,
         behind,
@@ -160,9 +160,9 @@ fn hinted<'s>(before: &'static [u8], word: &'s [u8], behind: &'static [u8]) -> H
 }
 
 /// What to write in place of a word that says nothing: how it is spelled here, or else the word that was meant, with a `?`.
-#[tactic(auto, unfolding(crate::specs::Hints::hint_for))]
-pub fn hint_for(word: &[u8]) -> Option<Hint<'_>>
-    ensures text { option_map hint_text result ≡ hint_for word.now }
+#[tactic(auto, unfolding(crate::specs::Hints::hint_for_word))]
+pub fn hint_for_word(word: &[u8]) -> Option<SpellingHint<'_>>
+    ensures text { option_map hint_text result ≡ hint_for_word word.now }
     ensures short { IfSome result (IsShortHint word.now) }
 {
     if let Some(hint) = local_spelling(word) {

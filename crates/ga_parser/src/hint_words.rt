@@ -2,8 +2,8 @@
 
 ghost use Rattle.std.specs.Prelude.{◌≡◌, true, map};
 ghost use Rattle.std.specs.List.{list_all};
-ghost use Rattle.ga_parser.specs.Hints.{foreign_words, known_words};
-ghost use Rattle.ga_parser.specs.inner.Hinting.{row_of, name_of, is_short_row, is_short_name};
+ghost use Rattle.ga_parser.specs.Hints.{foreign_words, known_source_words};
+ghost use Rattle.ga_parser.specs.inner.Hinting.{row_of, name_of_known_word, has_short_hint, is_short_name};
 
 /// A word of another Forth or of an assembler, and what says it here.
 pub(crate) struct ForeignWord {
@@ -241,14 +241,14 @@ static KNOWN_WORDS: &[KnownWord] = &[
 /// The words of other Forths.
 pub(crate) fn foreign_words() -> &'static [ForeignWord]
     ensures rows { map row_of result.now ≡ foreign_words }
-    ensures short { list_all is_short_row result.now ≡ true }
+    ensures short { list_all has_short_hint result.now ≡ true }
 {
     OTHER_WORDS
 }
 
 /// The words of source, beside those that are one sign.
-pub(crate) fn known_words() -> &'static [KnownWord]
-    ensures names { map name_of result.now ≡ known_words }
+pub(crate) fn known_source_words() -> &'static [KnownWord]
+    ensures names { map name_of_known_word result.now ≡ known_source_words }
     ensures short { list_all is_short_name result.now ≡ true }
 {
     KNOWN_WORDS

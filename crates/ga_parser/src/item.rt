@@ -18,9 +18,9 @@ pub enum AssemblyItem {
     /// `@p`, and its value in a later cell.
     Literal(Operand),
     /// An opcode with the address of an earlier label.
-    Back(Op, usize),
+    JumpToEarlierLabel(Op, usize),
     /// An opcode with the address of a later label.
-    Ahead(Op, usize),
+    JumpToLaterLabel(Op, usize),
     /// A cell of data.
     Cell(Operand),
 }
@@ -35,15 +35,15 @@ impl Default for AssemblyItem {
 #[derive(Clone, Copy)]
 pub enum AssemblyRequest {
     /// An item in the next place where it fits.
-    Put(AssemblyItem),
+    PlaceItem(AssemblyItem),
     /// `unext` to this label.
     Unext(usize),
     /// The label is the address of the next cell.
-    Mark(usize),
+    MarkLabel(usize),
     /// The next item is in a new cell.
-    Fill,
+    BeginNewCell,
     /// The next cell is the one at this address.
-    Go(u32),
+    GoToAddress(u32),
     /// Bit 9 of the next cell's address, and so of those after it.
     Carry(bool),
 }

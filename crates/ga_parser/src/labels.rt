@@ -2,10 +2,10 @@
 
 ghost use Rattle.std.specs.Prelude.{◌≡◌, ◌&&◌, not, [], length, map, IfOk, OnOk};
 ghost use Rattle.ga_parser.specs.Saying.{has_bytes};
-ghost use Rattle.ga_parser.specs.Asking.{ParseState, label_content, known_label_number, label_number, with_label_name, with_added_label, is_marked_label, with_marked_label, refuse_unplaced};
+ghost use Rattle.ga_parser.specs.Asking.{ParseState, label_content, known_label_number, label_number, labels_with_added_name, labels_with_added_label, is_placed_label, labels_with_marked_label, refuse_unplaced_label};
 ghost use Rattle.ga_parser.specs.inner.Drafting.{Answers};
 
-use super::fault::{SourceCause, SourceFault, fault_at};
+use super::fault::{SourceFault, SourceFaultCause, source_fault_at};
 use std::alloc::{AllocError, Global};
 use std::collections::HashMap;
 use std::marker::Model;
@@ -31,13 +31,13 @@ pub(crate) struct Labels<'s> {
 impl<'s> Model for Labels<'s> {
     ghost use Rattle.std.specs.Prelude.{List, map};
     ghost use Rattle.ga_parser.specs.Asking.{LabelContent, label_content};
-    ghost use Rattle.ga_parser.specs.inner.Names.{AreNames};
+    ghost use Rattle.ga_parser.specs.inner.Names.{AreLabelNumbersByName};
 
     ghost Value = { List LabelContent };
 
     ghost view = { λ l. map label_content l.list.items };
 
-    ghost invariant = { λ l. AreNames l.names (map label_content l.list.items) };
+    ghost invariant = { λ l. AreLabelNumbersByName l.names (map label_content l.list.items) };
 }
 
 impl<'s> Labels<'s> {
@@ -73,7 +73,7 @@ impl<'s> Labels<'s> {
     /// The number of the label with this name; a new one where there is none.
     pub(crate) fn named(&mut self, line: u32, name: &'s [u8]) -> Result<usize, AllocError>
         ensures number { IfOk result (λ label. label ≡ label_number self.old name.now) }
-        ensures labels { OnOk result (self.new ≡ with_label_name self.old line name.now) }
+        ensures labels { OnOk result (self.new ≡ labels_with_added_name self.old line name.now) }
     {
         if let Some(label) = self.find(name) {
             return Ok(label);
@@ -97,7 +97,7 @@ impl<'s> Labels<'s> {
     #[tactic(auto, using(crate::proofs::Asking::nameless_pushed))]
     pub(crate) fn add_anonymous(&mut self, line: u32, is_marked: bool) -> Result<usize, AllocError>
         ensures number { IfOk result (λ label. label ≡ length self.old) }
-        ensures labels { OnOk result (self.new ≡ with_added_label self.old line [] is_marked) }
+        ensures labels { OnOk result (self.new ≡ labels_with_added_label self.old line [] is_marked) }
     {
         let label = self.list.len();
         self.list.push(Label {
@@ -110,7 +110,7 @@ impl<'s> Labels<'s> {
 
     /// Whether the label's place was met.
     pub(crate) fn is_marked(&self, label: usize) -> bool
-        ensures { result ≡ is_marked_label self.now label }
+        ensures { result ≡ is_placed_label self.now label }
     {
         match self.list.get(label) {
             Some(found) => found.is_marked,
@@ -121,7 +121,7 @@ impl<'s> Labels<'s> {
     /// The label's place is met.
     #[tactic(auto, using(crate::proofs::Asking::names_marked, crate::proofs::Asking::marked_view))]
     pub(crate) fn mark_label(&mut self, label: usize)
-        ensures { self.new ≡ with_marked_label self.old label }
+        ensures { self.new ≡ labels_with_marked_label self.old label }
     {
         if label < self.list.len() {
             self.list[label].is_marked = true;
@@ -131,11 +131,11 @@ impl<'s> Labels<'s> {
     /// The first name that no place has.
     #[tactic(auto, using(crate::proofs::Asking::placed_more, crate::proofs::Asking::placed_not, crate::proofs::Asking::placed_all, std::proofs::lemmas::List::drop_all))]
     pub(crate) fn check(&self) -> Result<(), SourceFault<'s>>
-        ensures { (now : ParseState) → Answers result (refuse_unplaced now self.now) (λ _. now) }
+        ensures { (now : ParseState) → Answers result (refuse_unplaced_label now self.now) (λ _. now) }
     {
         for label in &self.list {
             if is_unplaced(label) {
-                return Err(fault_at(label.line, SourceCause::Unknown(label.name)));
+                return Err(source_fault_at(label.line, SourceFaultCause::UnknownWord(label.name)));
             }
         }
         Ok(())

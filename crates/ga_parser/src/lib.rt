@@ -20,10 +20,10 @@ mod refusing;
 mod scan;
 mod vocabulary;
 
-pub use draft::{read_requests, with_carry_bit};
+pub use draft::{address_with_carry_bit, read_requests_of_node_words};
 pub use expectations::{ExpectationLine, expectation_lines};
-pub use fault::{NumberRange, SourceCause, SourceFault, fault_at};
-pub use hint::{Hint, hint_for};
+pub use fault::{NumberRange, SourceFault, SourceFaultCause, source_fault_at};
+pub use hint::{SpellingHint, hint_for_word};
 pub use item::{
     AssemblyItem, AssemblyRequest, InitialRegisters, LocatedRequest, NodeRequests, Operand,
     RegisterValue,
@@ -33,6 +33,7 @@ pub use nearness::is_within_one_edit;
 pub use number::parse_port;
 pub use recovery::{RecoveredRequests, recover_requests};
 pub use scan::{
-    Token, TokenKind, source_words, source_words_without_copies, strip_bom, tokens_until_fault,
+    Token, TokenKind, source_words, source_words_without_copies, strip_byte_order_mark,
+    tokens_through_first_fault,
 };
 pub use vocabulary::{Directive, Register, parse_directive};

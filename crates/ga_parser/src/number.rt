@@ -4,7 +4,7 @@ ghost use Rattle.std.specs.Prelude.{◌≡◌, ◌<◌, ◌≤◌, ◌^◌, min,
 ghost use Rattle.std.specs.Char.{digit_value};
 ghost use Rattle.std.specs.Option.{option_map_or, SomeIff};
 ghost use Rattle.ga_parser.specs.declared.number.Number.TheVariants.{Nothing};
-ghost use Rattle.ga_parser.specs.Vocabulary.{value_of_digits, unsigned_number, checked_word, checked_negative_word, signed_number, named_port_set, named_port_address, number_spelled_by_word};
+ghost use Rattle.ga_parser.specs.Vocabulary.{value_of_digits, unsigned_number, number_in_word_range, negative_number_in_range, signed_number, named_port_set, named_port_address, number_spelled_by_word};
 
 use ga_ports::parse_side_set;
 
@@ -57,8 +57,8 @@ fn plain(text: &[u8]) -> Option<u32>
 }
 
 /// A number of this size.
-fn checked_word(size: u32) -> Number
-    ensures { result ≡ checked_word size }
+fn number_in_word_range(size: u32) -> Number
+    ensures { result ≡ number_in_word_range size }
 {
     if size < 0x4_0000 {
         Number::Of(size)
@@ -68,8 +68,8 @@ fn checked_word(size: u32) -> Number
 }
 
 /// A number of this size below 0.
-fn checked_negative_word(size: u32) -> Number
-    ensures { result ≡ checked_negative_word size }
+fn negative_number_in_range(size: u32) -> Number
+    ensures { result ≡ negative_number_in_range size }
 {
     if size <= 0x2_0000 {
         Number::Of((0x4_0000 - size) % 0x4_0000)
@@ -80,20 +80,20 @@ fn checked_negative_word(size: u32) -> Number
 
 /// The number of digits after a `-`.
 fn negative(text: &[u8]) -> Number
-    ensures { result ≡ option_map_or checked_negative_word (unsigned_number text.now) Nothing }
+    ensures { result ≡ option_map_or negative_number_in_range (unsigned_number text.now) Nothing }
 {
     match plain(text) {
-        Some(size) => checked_negative_word(size),
+        Some(size) => negative_number_in_range(size),
         None => Number::Nothing,
     }
 }
 
 /// What digits say of a number.
 fn positive(text: &[u8]) -> Number
-    ensures { result ≡ option_map_or checked_word (unsigned_number text.now) Nothing }
+    ensures { result ≡ option_map_or number_in_word_range (unsigned_number text.now) Nothing }
 {
     match plain(text) {
-        Some(size) => checked_word(size),
+        Some(size) => number_in_word_range(size),
         None => Number::Nothing,
     }
 }
@@ -133,12 +133,12 @@ pub fn parse_port(text: &[u8]) -> Option<u32>
     } else if text == b"io".as_slice() {
         Some(0x15d)
     } else {
-        named_ports(text)
+        named_port_addresses(text)
     }
 }
 
 /// The address of a set of ports.
-fn named_ports(text: &[u8]) -> Option<u32>
+fn named_port_addresses(text: &[u8]) -> Option<u32>
     ensures { result ≡ named_port_set text.now }
 {
     let set = parse_side_set(text)?;

@@ -2,16 +2,16 @@
 
 ghost use Rattle.std.specs.Prelude.{◌≡◌, ◌++◌, map, filter, IfOk, IfErr, OnOk};
 ghost use Rattle.std.specs.List.{flat_map};
-ghost use Rattle.ga_parser.specs.declared.fault.SourceCause.TheVariants.{Memory};
+ghost use Rattle.ga_parser.specs.declared.fault.SourceFaultCause.TheVariants.{Memory};
 ghost use Rattle.ga_parser.specs.Asking.{label_content};
-ghost use Rattle.ga_parser.specs.Requests.{word_refusal};
-ghost use Rattle.ga_parser.specs.Recovery.{AreRecoveredRequests, operand_label as label_by, item_label as label_of_item, request_label as label_of_request, has_placed_label as place_by, unplaced_label_refusals, unplaced_request_refusals, unplaced_register_refusals, register_label as label_of_given, recovered_register_value as left_of, recovered_registers as left_by, is_recovered_request as is_left_by, recovery_of_words, missing_word_refusals, unclosed_word_refusal};
+ghost use Rattle.ga_parser.specs.Requests.{refusal_of_source_fault};
+ghost use Rattle.ga_parser.specs.Recovery.{AreRecoveredRequests, operand_label as label_by, item_label as label_of_item, request_label as label_of_request, has_placed_label as place_by, unplaced_label_refusals, request_unplaced_label_refusals, register_unplaced_label_refusals, register_label as label_of_given, recovered_register_value as left_of, recovered_registers as left_by, is_request_label_placed as is_left_by, recovery_of_words, missing_word_refusals, unclosed_word_refusal};
 ghost use Rattle.ga_parser.specs.Saying.{token_contents};
-ghost use Rattle.ga_parser.specs.inner.Recovering.{recovery_of};
+ghost use Rattle.ga_parser.specs.inner.Recovering.{recovery_of_reading};
 
 use super::controls::Open;
 use super::draft::{Expect, RequestBuilder, expects_operand, text_at};
-use super::fault::{SourceCause, SourceFault, fault_at};
+use super::fault::{SourceFault, SourceFaultCause, source_fault_at};
 use super::item::{
     AssemblyItem, AssemblyRequest, InitialRegisters, LocatedRequest, NodeRequests, Operand,
     RegisterValue,
@@ -44,7 +44,8 @@ fn item_label(item: AssemblyItem) -> Option<usize>
 {
     match item {
         AssemblyItem::Opcode(_) => None,
-        AssemblyItem::Back(_, label) | AssemblyItem::Ahead(_, label) => Some(label),
+        AssemblyItem::JumpToEarlierLabel(_, label) | AssemblyItem::JumpToLaterLabel(_, label) =>
+            Some(label),
         AssemblyItem::Literal(value) | AssemblyItem::Cell(value) => operand_label(value),
     }
 }
@@ -54,11 +55,11 @@ fn request_label(request: AssemblyRequest) -> Option<usize>
     ensures { result ≡ label_of_request request }
 {
     match request {
-        AssemblyRequest::Put(item) => item_label(item),
+        AssemblyRequest::PlaceItem(item) => item_label(item),
         AssemblyRequest::Unext(label) => Some(label),
-        AssemblyRequest::Mark(_)
-        | AssemblyRequest::Fill
-        | AssemblyRequest::Go(_)
+        AssemblyRequest::MarkLabel(_)
+        | AssemblyRequest::BeginNewCell
+        | AssemblyRequest::GoToAddress(_)
         | AssemblyRequest::Carry(_) => None,
     }
 }
@@ -83,7 +84,7 @@ fn add_unplaced<'s>(
     line: u32,
     label: Option<usize>,
 ) -> Result<(), AllocError>
-    ensures { OnOk result (map word_refusal faults.new.items ≡ map word_refusal faults.old.items ++ unplaced_label_refusals (map label_content labels.now) line label) }
+    ensures { OnOk result (map refusal_of_source_fault faults.new.items ≡ map refusal_of_source_fault faults.old.items ++ unplaced_label_refusals (map label_content labels.now) line label) }
 {
     let Some(label) = label else {
         return Ok(());
@@ -92,7 +93,7 @@ fn add_unplaced<'s>(
         return Ok(());
     };
     if !found.is_marked && !found.name.is_empty() {
-        faults.push(fault_at(line, SourceCause::Unknown(found.name)))?;
+        faults.push(source_fault_at(line, SourceFaultCause::UnknownWord(found.name)))?;
     }
     Ok(())
 }
@@ -103,7 +104,7 @@ fn add_given<'s>(
     labels: &[Label<'s>],
     given: Option<RegisterValue>,
 ) -> Result<(), AllocError>
-    ensures { OnOk result (map word_refusal faults.new.items ≡ map word_refusal faults.old.items ++ unplaced_register_refusals (map label_content labels.now) given) }
+    ensures { OnOk result (map refusal_of_source_fault faults.new.items ≡ map refusal_of_source_fault faults.old.items ++ register_unplaced_label_refusals (map label_content labels.now) given) }
 {
     match given {
         Some(given) => add_unplaced(faults, labels, given.line, operand_label(given.value)),
@@ -140,7 +141,7 @@ fn recovered_registers(labels: &[Label<'_>], registers: InitialRegisters) -> Ini
 }
 
 /// Whether a request is left: its label has a place, where it needs one.
-fn is_recovered_request(labels: &[Label<'_>], asked: LocatedRequest) -> bool
+fn is_request_label_placed(labels: &[Label<'_>], asked: LocatedRequest) -> bool
     ensures { result ≡ is_left_by (map label_content labels.now) asked }
 {
     has_placed_label(labels, request_label(asked.request))
@@ -153,13 +154,13 @@ fn requests_left<'s>(
     labels: &[Label<'s>],
     asked: &[LocatedRequest],
 ) -> Result<Vec<LocatedRequest>, AllocError>
-    ensures faults { OnOk result (map word_refusal faults.new.items ≡ map word_refusal faults.old.items ++ flat_map (unplaced_request_refusals (map label_content labels.now)) asked.now) }
+    ensures faults { OnOk result (map refusal_of_source_fault faults.new.items ≡ map refusal_of_source_fault faults.old.items ++ flat_map (request_unplaced_label_refusals (map label_content labels.now)) asked.now) }
     ensures left { IfOk result (λ left. left.items ≡ filter (is_left_by (map label_content labels.now)) asked.now) }
 {
     let mut left = Vec::new(alloc);
     for one in asked {
         add_unplaced(faults, labels, one.line, request_label(one.request))?;
-        if is_recovered_request(labels, *one) {
+        if is_request_label_placed(labels, *one) {
             left.push(*one)?;
         }
     }
@@ -179,16 +180,16 @@ struct Reading<'s> {
 
 impl<'s> Reading<'s> {
     ghost use Rattle.std.specs.Prelude.{◌≡◌, ◌⊎◌, ◌&&◌, Err, OnOk, IfErr};
-    ghost use Rattle.ga_parser.specs.declared.fault.SourceCause.TheVariants.{Memory};
+    ghost use Rattle.ga_parser.specs.declared.fault.SourceFaultCause.TheVariants.{Memory};
     ghost use Rattle.ga_parser.specs.Asking.{parse_one_word as hear_row, refusal_at_line};
     ghost use Rattle.ga_parser.specs.Recovery.{recovery_after_result, is_comma, recover_next_word, initial_recovery};
-    ghost use Rattle.ga_parser.specs.Requests.{word_refusal, refusal_cause_of};
+    ghost use Rattle.ga_parser.specs.Requests.{refusal_of_source_fault, refusal_cause_of_fault_cause};
     ghost use Rattle.ga_parser.specs.Saying.{token_content};
-    ghost use Rattle.ga_parser.specs.inner.Recovering.{recovery_of};
+    ghost use Rattle.ga_parser.specs.inner.Recovering.{recovery_of_reading};
 
     /// Before the words of a node, whose name is on this line.
     fn new(alloc: Global, line: u32) -> Self
-        ensures { recovery_of result ≡ initial_recovery line }
+        ensures { recovery_of_reading result ≡ initial_recovery line }
     {
         Reading {
             draft: RequestBuilder::new(alloc),
@@ -206,11 +207,11 @@ impl<'s> Reading<'s> {
     }
 
     /// Passes over a word that would be refused.
-    fn pass_over(&mut self, line: u32, cause: SourceCause<'s>) -> Result<(), SourceFault<'s>>
-        ensures with_passed_word { OnOk result (recovery_of self.new ≡ recovery_after_result (recovery_of self.old) line (refusal_at_line line (refusal_cause_of cause.entry))) }
+    fn pass_over(&mut self, line: u32, cause: SourceFaultCause<'s>) -> Result<(), SourceFault<'s>>
+        ensures resolution_with_passed_word { OnOk result (recovery_of_reading self.new ≡ recovery_after_result (recovery_of_reading self.old) line (refusal_at_line line (refusal_cause_of_fault_cause cause.entry))) }
         ensures refused { IfErr result (λ fault. fault.cause ≡ Memory) }
     {
-        self.faults.push(fault_at(line, cause))?;
+        self.faults.push(source_fault_at(line, cause))?;
         self.draft.expect = Expect::Word;
         self.is_last_skipped = true;
         self.last = line;
@@ -219,8 +220,8 @@ impl<'s> Reading<'s> {
 
     /// Takes a word.
     fn parse_one_word(&mut self, token: Token<'s>, next: &[u8]) -> Result<(), SourceFault<'s>>
-        ensures heard { OnOk result (recovery_of self.new ≡ recovery_after_result (recovery_of self.old) token.entry.line (hear_row (recovery_of self.old).now (token_content token.entry) next.now)) }
-        ensures refused { IfErr result (λ fault. (fault.cause ≡ Memory) ⊎ (hear_row (recovery_of self.old).now (token_content token.entry) next.now ≡ Err (word_refusal fault))) }
+        ensures heard { OnOk result (recovery_of_reading self.new ≡ recovery_after_result (recovery_of_reading self.old) token.entry.line (hear_row (recovery_of_reading self.old).now (token_content token.entry) next.now)) }
+        ensures refused { IfErr result (λ fault. (fault.cause ≡ Memory) ⊎ (hear_row (recovery_of_reading self.old).now (token_content token.entry) next.now ≡ Err (refusal_of_source_fault fault))) }
     {
         self.draft.take(token, next)?;
         self.is_last_skipped = false;
@@ -231,7 +232,7 @@ impl<'s> Reading<'s> {
     /// Takes a word, or skips it if it would be refused. A `,` after a skipped word is skipped with it.
     #[tactic(auto, using(crate::proofs::Recovering::only_memory, crate::proofs::Recovering::heard_one))]
     fn take(&mut self, token: Token<'s>, next: &[u8]) -> Result<(), SourceFault<'s>>
-        ensures taken { OnOk result (recovery_of self.new ≡ recover_next_word (recovery_of self.old) (token_content token.entry) next.now) }
+        ensures taken { OnOk result (recovery_of_reading self.new ≡ recover_next_word (recovery_of_reading self.old) (token_content token.entry) next.now) }
         ensures refused { IfErr result (λ fault. fault.cause ≡ Memory) }
     {
         if self.goes_along(token) {
@@ -250,7 +251,7 @@ fn read_left<'s>(
     line: u32,
     tokens: &[Token<'s>],
 ) -> Result<Reading<'s>, SourceFault<'s>>
-    ensures read { IfOk result (λ reading. recovery_of reading ≡ recovery_of_words line (token_contents tokens.now)) }
+    ensures read { IfOk result (λ reading. recovery_of_reading reading ≡ recovery_of_words line (token_contents tokens.now)) }
     ensures refused { IfErr result (λ fault. fault.cause ≡ Memory) }
 {
     let mut reading = Reading::new(alloc, line);
@@ -262,10 +263,10 @@ fn read_left<'s>(
 
 /// Adds the faults of control words that are open.
 fn add_unclosed<'s>(faults: &mut Vec<SourceFault<'s>>, all: &[Open]) -> Result<(), AllocError>
-    ensures { OnOk result (map word_refusal faults.new.items ≡ map word_refusal faults.old.items ++ map unclosed_word_refusal all.now) }
+    ensures { OnOk result (map refusal_of_source_fault faults.new.items ≡ map refusal_of_source_fault faults.old.items ++ map unclosed_word_refusal all.now) }
 {
     for one in all {
-        faults.push(fault_at(one.line(), SourceCause::Open))?;
+        faults.push(source_fault_at(one.line(), SourceFaultCause::UnclosedControlWord))?;
     }
     Ok(())
 }
@@ -277,10 +278,10 @@ fn add_open<'s>(
     all: &[Open],
     last: u32,
 ) -> Result<(), AllocError>
-    ensures { OnOk result (map word_refusal faults.new.items ≡ map word_refusal faults.old.items ++ missing_word_refusals last expect ++ map unclosed_word_refusal all.now) }
+    ensures { OnOk result (map refusal_of_source_fault faults.new.items ≡ map refusal_of_source_fault faults.old.items ++ missing_word_refusals last expect ++ map unclosed_word_refusal all.now) }
 {
     if expects_operand(expect) {
-        faults.push(fault_at(last, SourceCause::Missing))?;
+        faults.push(source_fault_at(last, SourceFaultCause::MissingNameOrValue))?;
     }
     add_unclosed(faults, all)
 }

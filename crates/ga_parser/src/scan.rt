@@ -2,13 +2,13 @@
 
 ghost use Rattle.std.specs.Prelude.{◌≡◌, ◌<◌, ◌+◌, ◌-◌, [], ◌∷◌, ◌++◌, length, IsOkAnd, IsErrAnd, IfOk, OnOk};
 ghost use Rattle.std.specs.List.{list_all};
-ghost use Rattle.ga_parser.specs.Saying.{is_blank as is_blank_byte, parts_ended_by, is_comment_end as closes_comment, strip_bom as without_mark, stripped_source_line as bare_line, without_carriage_return as without_end, all_tokens_of_line, begins_expectation as begins_by, tokens_of_line, is_word, is_word_kind, tokens_of_lines, source_lines, tokens_until_fault as up_to_fault_in, token_content, token_contents, all_columns_of_line, columns_of_line, columns_of_lines, token_columns};
+ghost use Rattle.ga_parser.specs.Saying.{is_blank as is_blank_byte, parts_ended_by_bytes, is_comment_end as closes_comment, strip_byte_order_mark as without_mark, stripped_source_line as bare_line, line_without_carriage_return as without_end, tokens_of_line_with_expectation, begins_expectation as begins_by, tokens_of_line, is_word_token, is_word_kind, tokens_of_lines, source_lines, tokens_through_first_fault as up_to_fault_in, token_content, token_contents, columns_of_line_with_expectation, columns_of_line, columns_of_lines, token_columns};
 ghost use Rattle.ga_parser.specs.Words.{source_tokens, source_columns, source_tokens_without_copies};
-ghost use Rattle.ga_parser.specs.declared.scan.TokenKind.TheVariants.{Word, LongLine, OpenComment, NoNumber, Missing, Taken};
-ghost use Rattle.ga_parser.specs.declared.fault.SourceCause.TheVariants.{LongLine as TooLong, OpenComment as LeftOpen, NoNumber as NumberLeftOut, Missing as NameLeftOut, Taken as IsTaken};
+ghost use Rattle.ga_parser.specs.declared.scan.TokenKind.TheVariants.{Word, LongLine, OpenComment, NoNumber, MissingNameOrValue, NameTaken};
+ghost use Rattle.ga_parser.specs.declared.fault.SourceFaultCause.TheVariants.{LongLine as TooLong, OpenComment as LeftOpen, NoNumber as NumberLeftOut, MissingNameOrValue as NameLeftOut, NameTaken as IsTaken};
 
 use super::constants::resolve;
-use super::fault::{SourceCause, SourceFault, fault_at};
+use super::fault::{SourceFault, SourceFaultCause, source_fault_at};
 use super::groups::expand_node_groups;
 use ga_text::first_line;
 use std::alloc::{AllocError, Global};
@@ -35,9 +35,9 @@ pub enum TokenKind {
     /// No number in range is before `constant`.
     NoNumber,
     /// A name is missing.
-    Missing,
+    MissingNameOrValue,
     /// The name of a constant is taken.
-    Taken,
+    NameTaken,
 }
 
 impl<'s> Token<'s> {
@@ -51,16 +51,22 @@ impl<'s> Token<'s> {
         ensures long { self.entry.kind ≡ LongLine → IsErrAnd result (λ fault. (fault.line ≡ self.entry.line) × (fault.cause ≡ TooLong)) }
         ensures open { self.entry.kind ≡ OpenComment → IsErrAnd result (λ fault. (fault.line ≡ self.entry.line) × (fault.cause ≡ LeftOpen)) }
         ensures no_number { self.entry.kind ≡ NoNumber → IsErrAnd result (λ fault. (fault.line ≡ self.entry.line) × (fault.cause ≡ NumberLeftOut)) }
-        ensures missing { self.entry.kind ≡ Missing → IsErrAnd result (λ fault. (fault.line ≡ self.entry.line) × (fault.cause ≡ NameLeftOut)) }
-        ensures taken { self.entry.kind ≡ Taken → IsErrAnd result (λ fault. (fault.line ≡ self.entry.line) × (fault.cause ≡ IsTaken)) }
+        ensures missing { self.entry.kind ≡ MissingNameOrValue → IsErrAnd result (λ fault. (fault.line ≡ self.entry.line) × (fault.cause ≡ NameLeftOut)) }
+        ensures taken { self.entry.kind ≡ NameTaken → IsErrAnd result (λ fault. (fault.line ≡ self.entry.line) × (fault.cause ≡ IsTaken)) }
     {
         match self.kind {
             TokenKind::Word => Ok(self.text),
-            TokenKind::LongLine => Err(fault_at(self.line, SourceCause::LongLine)),
-            TokenKind::OpenComment => Err(fault_at(self.line, SourceCause::OpenComment)),
-            TokenKind::NoNumber => Err(fault_at(self.line, SourceCause::NoNumber)),
-            TokenKind::Missing => Err(fault_at(self.line, SourceCause::Missing)),
-            TokenKind::Taken => Err(fault_at(self.line, SourceCause::Taken)),
+            TokenKind::LongLine => Err(source_fault_at(self.line, SourceFaultCause::LongLine)),
+            TokenKind::OpenComment => Err(source_fault_at(
+                self.line,
+                SourceFaultCause::OpenComment,
+            )),
+            TokenKind::NoNumber => Err(source_fault_at(self.line, SourceFaultCause::NoNumber)),
+            TokenKind::MissingNameOrValue => Err(source_fault_at(
+                self.line,
+                SourceFaultCause::MissingNameOrValue,
+            )),
+            TokenKind::NameTaken => Err(source_fault_at(self.line, SourceFaultCause::NameTaken)),
         }
     }
 }
@@ -85,7 +91,7 @@ fn is_comment_end(word: &[u8]) -> bool
 #[tactic(auto, using(crate::proofs::Scanning::at_end, crate::proofs::Scanning::no_end))]
 fn first_part(text: &[u8]) -> (&[u8], &[u8])
     requires { 0 < length text.now }
-    ensures splits { parts_ended_by is_blank_byte text.now ≡ result.0.now ∷ parts_ended_by is_blank_byte result.1.now }
+    ensures splits { parts_ended_by_bytes is_blank_byte text.now ≡ result.0.now ∷ parts_ended_by_bytes is_blank_byte result.1.now }
     ensures left { length result.1.now ≡ length text.now - (length result.0.now + 1) }
     ensures shorter { length result.1.now < length text.now }
 {
@@ -103,9 +109,9 @@ pub(crate) fn scan_all_of_line<'s>(
     line: u32,
     text: &'s [u8],
 ) -> Result<bool, AllocError>
-    ensures says { OnOk result (token_contents tokens.new.items ≡ token_contents tokens.old.items ++ all_tokens_of_line line text.now) }
-    ensures columns { OnOk result (token_columns tokens.new.items ≡ token_columns tokens.old.items ++ all_columns_of_line text.now) }
-    ensures whole { IfOk result (λ whole. whole ≡ list_all is_word (all_tokens_of_line line text.now)) }
+    ensures says { OnOk result (token_contents tokens.new.items ≡ token_contents tokens.old.items ++ tokens_of_line_with_expectation line text.now) }
+    ensures columns { OnOk result (token_columns tokens.new.items ≡ token_columns tokens.old.items ++ columns_of_line_with_expectation text.now) }
+    ensures whole { IfOk result (λ whole. whole ≡ list_all is_word_token (tokens_of_line_with_expectation line text.now)) }
 {
     if text.len() > LONGEST {
         push(tokens, line, 1, &[], TokenKind::LongLine)?;
@@ -183,7 +189,7 @@ fn push<'s>(
 }
 
 /// A line without the byte order mark with which the first line of a text may begin. Lines count from 1.
-pub fn strip_bom(line: u32, text: &[u8]) -> &[u8]
+pub fn strip_byte_order_mark(line: u32, text: &[u8]) -> &[u8]
     ensures { result.now ≡ without_mark line text.now }
 {
     match text {
@@ -193,7 +199,7 @@ pub fn strip_bom(line: u32, text: &[u8]) -> &[u8]
 }
 
 /// A line without the carriage return at its end.
-fn without_carriage_return(text: &[u8]) -> &[u8]
+fn line_without_carriage_return(text: &[u8]) -> &[u8]
     ensures { result.now ≡ without_end text.now }
 {
     match text {
@@ -206,7 +212,7 @@ fn without_carriage_return(text: &[u8]) -> &[u8]
 pub(crate) fn stripped_source_line(line: u32, text: &[u8]) -> &[u8]
     ensures { result.now ≡ bare_line line text.now }
 {
-    without_carriage_return(strip_bom(line, text))
+    line_without_carriage_return(strip_byte_order_mark(line, text))
 }
 
 /// The words of a text as they are written, up to its end or to a line `end`. What follows a line with a fault is read too.
@@ -261,13 +267,13 @@ pub fn source_words_without_copies(
 
 /// Whether the word is no fault.
 fn is_whole(word: &Token<'_>) -> bool
-    ensures { result ≡ is_word (token_content word.now) }
+    ensures { result ≡ is_word_token (token_content word.now) }
 {
     word.kind == TokenKind::Word
 }
 
 /// The words up to the first fault of a line or of a constant, with that one.
-pub fn tokens_until_fault<'a, 's>(words: &'a [Token<'s>]) -> &'a [Token<'s>]
+pub fn tokens_through_first_fault<'a, 's>(words: &'a [Token<'s>]) -> &'a [Token<'s>]
     ensures { token_contents result.now ≡ up_to_fault_in (token_contents words.now) }
 {
     for (i, word) in words.iter().enumerate() {

@@ -1,7 +1,7 @@
 //! The words that stand for themselves.
 
 ghost use Rattle.std.specs.Prelude.{◌≡◌, ◌||◌, is_some, codes, bytes_eq};
-ghost use Rattle.ga_parser.specs.Vocabulary.{find_in_table, loop_closing_words, opcode_aliases, opcode_names, opcode_without_address, opcode_of_word, control_of_word, directive_of_word, register_bound, register_range, is_a_number as is_number_in, is_syntax_word as is_sign_word, is_reserved as is_taken_word};
+ghost use Rattle.ga_parser.specs.Vocabulary.{find_in_table, loop_closing_words, opcodes_by_alias, opcodes_by_name, opcode_without_address, opcode_of_word, control_of_word, directive_of_word, register_bound, register_range, spells_number as is_number_in, is_syntax_word as is_sign_word, is_reserved_word as is_taken_word};
 
 use super::fault::NumberRange;
 use super::number::{Number, number_of};
@@ -36,7 +36,7 @@ pub(crate) enum Control {
 
 /// The opcode of a name that it has beside its own.
 fn other_name(text: &[u8]) -> Option<Op>
-    ensures { result ≡ find_in_table opcode_aliases text.now }
+    ensures { result ≡ find_in_table opcodes_by_alias text.now }
 {
     find_in_table!(text;
         b"-" => Op::Invert,
@@ -48,7 +48,7 @@ fn other_name(text: &[u8]) -> Option<Op>
 
 /// The opcode of its own name.
 fn own_name(text: &[u8]) -> Option<Op>
-    ensures { result ≡ find_in_table opcode_names text.now }
+    ensures { result ≡ find_in_table opcodes_by_name text.now }
 {
     for code in 0..32u8 {
         let op = Op::from_code(code);
@@ -85,8 +85,8 @@ pub(crate) fn parse_opcode(text: &[u8]) -> Option<Op>
 
 /// Whether a word has a meaning of its own, so that no label has this name: an opcode, a control word, a number, a port, or a
 /// word that comes before or after a name or a value.
-#[tactic(auto, unfolding(crate::specs::Vocabulary::is_reserved))]
-pub(crate) fn is_reserved(text: &[u8]) -> bool
+#[tactic(auto, unfolding(crate::specs::Vocabulary::is_reserved_word))]
+pub(crate) fn is_reserved_word(text: &[u8]) -> bool
     ensures { result ≡ is_taken_word text.now }
 {
     is_opcode(text)
@@ -137,7 +137,7 @@ pub enum Directive {
     /// `/p`, `/a`, `/b`
     Register(Register),
     /// `..`
-    Fill,
+    BeginNewCell,
     /// `+cy`, `-cy`
     Carry(bool),
 }
@@ -185,7 +185,7 @@ pub fn parse_directive(text: &[u8]) -> Option<Directive>
         b"/p" => Directive::Register(Register::P),
         b"/a" => Directive::Register(Register::A),
         b"/b" => Directive::Register(Register::B),
-        b".." => Directive::Fill,
+        b".." => Directive::BeginNewCell,
         b"+cy" => Directive::Carry(true),
         b"-cy" => Directive::Carry(false),
     )

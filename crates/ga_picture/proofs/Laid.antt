@@ -9,33 +9,33 @@ use Rattle.ga_causal.specs.Dependence.{is_transfer_event}
 use Rattle.ga_grid.specs.declared.node_id.NodeId.{NodeId}
 use Rattle.ga_picture.specs.declared.item.PictureItem.{PictureItem}
 use Rattle.ga_picture.specs.declared.placing.PictureRow.{PictureRow}
-use Rattle.ga_picture.specs.Items.{item_at_place, IsPlainOwnEvent, run_events_before, run_events_after, folded_event_count, folded_event_count_at, has_picture_row, row_places_below}
+use Rattle.ga_picture.specs.Items.{picture_item_at_index, IsOwnEventIfPlain, run_event_count_before, run_event_count_after, folded_event_count, folded_event_count_at, has_event_own_row, row_event_positions_below}
 use Rattle.ga_picture.specs.Drawing.{IsPictureRow}
-use Rattle.ga_picture.specs.Picture.{IsSvgGroup, AreSvgGroups, row_index_from}
+use Rattle.ga_picture.specs.Picture.{IsSvgGroup, AreSvgGroups, row_index_of_event_from}
 use Rattle.ga_picture.specs.declared.race_marks.RaceMark.{RaceMark}
 
 -- ---- rows appended one after another
 
-rows_none : (items : List PictureItem) (fold : ℕ) → row_places_below items fold zero ≡ []
-unfolding row_places_below
+rows_none : (items : List PictureItem) (fold : ℕ) → row_event_positions_below items fold zero ≡ []
+unfolding row_event_positions_below
 rows_none items fold = refl
 
-rows_one : (items : List PictureItem) (fold place : ℕ) → row_places_below items fold (suc place) ≡ row_places_below items fold place ++ (if has_picture_row items fold place then place ∷ [] else [])
-unfolding row_places_below
+rows_one : (items : List PictureItem) (fold place : ℕ) → row_event_positions_below items fold (suc place) ≡ row_event_positions_below items fold place ++ (if has_event_own_row items fold place then place ∷ [] else [])
+unfolding row_event_positions_below
 rows_one items fold place = refl
 
-rows_next : (items : List PictureItem) (fold place : ℕ) (has : Bool) → has_picture_row items fold place ≡ has
-    → row_places_below items fold (place + 1) ≡ row_places_below items fold place ++ (if has then place ∷ [] else [])
+rows_next : (items : List PictureItem) (fold place : ℕ) (has : Bool) → has_event_own_row items fold place ≡ has
+    → row_event_positions_below items fold (place + 1) ≡ row_event_positions_below items fold place ++ (if has then place ∷ [] else [])
 rows_next items fold place has e =
-    ap (row_places_below items fold) (add-one place) ∙ rows_one items fold place
-    ∙ ap (λ (b : Bool). row_places_below items fold place ++ (if b then place ∷ [] else [])) e
+    ap (row_event_positions_below items fold) (add-one place) ∙ rows_one items fold place
+    ∙ ap (λ (b : Bool). row_event_positions_below items fold place ++ (if b then place ∷ [] else [])) e
 
 abbrev pub places_of : List PictureRow → List ℕ
 places_of rows = map (λ (row : PictureRow). row.place) rows
 
 -- the rows of the events up to a place
 pub record AreLaid (items : List PictureItem) (fold : ℕ) (lines : List NodeId) (place : ℕ) (rows : List PictureRow) : Type 0 where
-  pub places : places_of rows ≡ row_places_below items fold place
+  pub places : places_of rows ≡ row_event_positions_below items fold place
   pub drawn : All (IsPictureRow items fold lines) rows
 
 pub laid_none : (items : List PictureItem) (fold : ℕ) (lines : List NodeId) (rows : List PictureRow) → rows ≡ [] → AreLaid items fold lines 0 rows
@@ -49,7 +49,7 @@ places_push [] row = refl
 places_push (x ∷ xs) row = ap (λ (z : List ℕ). x.place ∷ z) (places_push xs row)
 
 pub laid_more : (items : List PictureItem) (fold : ℕ) (lines : List NodeId) (place : ℕ) (rows more : List PictureRow) (row : PictureRow) → AreLaid items fold lines place rows
-    → has_picture_row items fold place ≡ true → row.place ≡ place → IsPictureRow items fold lines row → more ≡ rows ++ row ∷ [] → AreLaid items fold lines (place + 1) more
+    → has_event_own_row items fold place ≡ true → row.place ≡ place → IsPictureRow items fold lines row → more ≡ rows ++ row ∷ [] → AreLaid items fold lines (place + 1) more
 laid_more items fold lines place rows more row a has at is e = record {
   places = ap places_of e ∙ places_push rows row ∙ ap (λ (z : ℕ). places_of rows ++ z ∷ []) at
       ∙ ap (λ (z : List ℕ). z ++ place ∷ []) a.places ∙ sym (rows_next items fold place true has);
@@ -57,24 +57,24 @@ laid_more items fold lines place rows more row a has at is e = record {
 }
 
 pub laid_same : (items : List PictureItem) (fold : ℕ) (lines : List NodeId) (place : ℕ) (rows : List PictureRow) → AreLaid items fold lines place rows
-    → has_picture_row items fold place ≡ false → AreLaid items fold lines (place + 1) rows
+    → has_event_own_row items fold place ≡ false → AreLaid items fold lines (place + 1) rows
 laid_same items fold lines place rows a has = record {
-  places = a.places ∙ sym (append-nil (row_places_below items fold place)) ∙ sym (rows_next items fold place false has);
+  places = a.places ∙ sym (append-nil (row_event_positions_below items fold place)) ∙ sym (rows_next items fold place false has);
   drawn = a.drawn;
 }
 
 -- what the code computes for an event is its value by the definition
-pub steps_are : (items : List PictureItem) (fold place : ℕ) (item : PictureItem) (before behind steps : ℕ) → item_at_place items place ≡ item → before ≡ run_events_before items place
-    → behind ≡ run_events_after items place → steps ≡ folded_event_count item before behind fold → steps ≡ folded_event_count_at items fold place
+pub steps_are : (items : List PictureItem) (fold place : ℕ) (item : PictureItem) (before behind steps : ℕ) → picture_item_at_index items place ≡ item → before ≡ run_event_count_before items place
+    → behind ≡ run_event_count_after items place → steps ≡ folded_event_count item before behind fold → steps ≡ folded_event_count_at items fold place
 steps_are items fold place item before behind steps here b f s =
-    s ∙ ap (λ (z : ℕ). folded_event_count item z behind fold) b ∙ ap (λ (z : ℕ). folded_event_count item (run_events_before items place) z fold) f
-    ∙ ap (λ (z : PictureItem). folded_event_count z (run_events_before items place) (run_events_after items place) fold) (sym here)
+    s ∙ ap (λ (z : ℕ). folded_event_count item z behind fold) b ∙ ap (λ (z : ℕ). folded_event_count item (run_event_count_before items place) z fold) f
+    ∙ ap (λ (z : PictureItem). folded_event_count z (run_event_count_before items place) (run_event_count_after items place) fold) (sym here)
 
-pub row_is : (items : List PictureItem) (fold place : ℕ) (item : PictureItem) (before steps : ℕ) (has : Bool) → item_at_place items place ≡ item → before ≡ run_events_before items place
-    → steps ≡ folded_event_count_at items fold place → has ≡ (not item.out && ((steps == 1) || (before == 0))) → has_picture_row items fold place ≡ has
+pub row_is : (items : List PictureItem) (fold place : ℕ) (item : PictureItem) (before steps : ℕ) (has : Bool) → picture_item_at_index items place ≡ item → before ≡ run_event_count_before items place
+    → steps ≡ folded_event_count_at items fold place → has ≡ (not item.out && ((steps == 1) || (before == 0))) → has_event_own_row items fold place ≡ has
 row_is items fold place item before steps has here b s h =
-    ap (λ (z : PictureItem). not z.out && ((folded_event_count_at items fold place == 1) || (run_events_before items place == 0))) here
-    ∙ ap (λ (z : ℕ). not item.out && ((z == 1) || (run_events_before items place == 0))) (sym s)
+    ap (λ (z : PictureItem). not z.out && ((folded_event_count_at items fold place == 1) || (run_event_count_before items place == 0))) here
+    ∙ ap (λ (z : ℕ). not item.out && ((z == 1) || (run_event_count_before items place == 0))) (sym s)
     ∙ ap (λ (z : ℕ). not item.out && ((steps == 1) || (z == 0))) (sym b) ∙ sym h
 
 -- an event that has a row isn't left out
@@ -83,13 +83,13 @@ is_in true rest has h e = absurd (true≢false (sym h ∙ e))
 is_in false rest has h e = refl
 
 -- a pass is drawn alone
-pub alone : (item : PictureItem) (before behind fold : ℕ) → IsPlainOwnEvent item → is_transfer_event item.cause.event ≡ true → folded_event_count item before behind fold ≡ 1
+pub alone : (item : PictureItem) (before behind fold : ℕ) → IsOwnEventIfPlain item → is_transfer_event item.cause.event ≡ true → folded_event_count item before behind fold ≡ 1
 alone item before behind fold simple p = ⊎_elim
     (λ t. absurd (both_ways (is_transfer_event item.cause.event) (simple t).0 p))
     (λ f. ap (λ (b : Bool). if b && (not (fold == 0) && nat_le fold (before + behind + 1)) then before + behind + 1 else 1) f)
     (cases_Bool item.plain)
 
-pub steps_shown : (item : PictureItem) (shown steps before behind fold : ℕ) → IsPlainOwnEvent item → steps ≡ folded_event_count item before behind fold
+pub steps_shown : (item : PictureItem) (shown steps before behind fold : ℕ) → IsOwnEventIfPlain item → steps ≡ folded_event_count item before behind fold
     → (is_transfer_event item.cause.event ≡ false → shown ≡ steps) → (is_transfer_event item.cause.event ≡ true → shown ≡ 1) → shown ≡ steps
 steps_shown item shown steps before behind fold simple s many one = ⊎_elim
     (λ t. one t ∙ sym (s ∙ alone item before behind fold simple t))
@@ -127,13 +127,13 @@ classes_all f xs at head text past b = subst (λ z. AreBehind head (map f z) tex
 
 -- the first row of the rest is that of the event, or the search continues after it
 pub row_next : (rows : List PictureRow) (start place at : ℕ) (d : PictureRow) (same : Bool) → at < length rows → same ≡ ((get_or rows at d).place + start == place)
-    → row_index_from (drop at rows) start place at ≡ (if same then Some at else row_index_from (drop (at + 1) rows) start place (at + 1))
+    → row_index_of_event_from (drop at rows) start place at ≡ (if same then Some at else row_index_of_event_from (drop (at + 1) rows) start place (at + 1))
 row_next rows start place at d same l e =
-    ap (λ (z : List PictureRow). row_index_from z start place at) (drop_more rows at d l)
-    ∙ ap (λ (b : Bool). if b then Some at else row_index_from (drop (at + 1) rows) start place (at + 1)) (sym e)
+    ap (λ (z : List PictureRow). row_index_of_event_from z start place at) (drop_more rows at d l)
+    ∙ ap (λ (b : Bool). if b then Some at else row_index_of_event_from (drop (at + 1) rows) start place (at + 1)) (sym e)
 
-pub row_none : (rows : List PictureRow) (start place at : ℕ) → length rows ≤ at → row_index_from (drop at rows) start place at ≡ None
-row_none rows start place at past = ap (λ (z : List PictureRow). row_index_from z start place at) (drop_all at rows past)
+pub row_none : (rows : List PictureRow) (start place at : ℕ) → length rows ≤ at → row_index_of_event_from (drop at rows) start place at ≡ None
+row_none rows start place at past = ap (λ (z : List PictureRow). row_index_of_event_from z start place at) (drop_all at rows past)
 
 -- the marks of one more
 pub marked_next : {A : Type 0} (f : A → List RaceMark) (xs : List A) (at : ℕ) (x : A) (now new all : List RaceMark) → at < length xs → x ≡ get_or xs at x

@@ -4,15 +4,15 @@ use Rattle.std.specs.List.{list_any}
 use Rattle.std.proofs.lemmas.Bool.{or_left, or_right, or_cases, both_ways, cases_eq, cases_Bool}
 use Rattle.ga_causal.proofs.Exact.{any-mono, rule_meets, meets_rule}
 use Rattle.std.proofs.lemmas.List.{length-replicate}
-use Rattle.ga_event.specs.declared.event.Cause.{Cause}
-use Rattle.ga_event.specs.Touches.{observed_by}
-use Rattle.ga_causal.specs.Dependence.{touched_nodes, cause_touches, event_at, DependsDirectly, DependsOn, itself, through}
-use Rattle.ga_causal.specs.Equivalence.{observes}
-use Rattle.ga_causal.proofs.Oldest.{none_marked, DependsOn-order as ordered}
+use Rattle.ga_event.specs.declared.event.EventWithLook.{EventWithLook}
+use Rattle.ga_event.specs.Touches.{nodes_observed_by_event}
+use Rattle.ga_causal.specs.Dependence.{touched_nodes, event_with_look_touches_node, event_at, DependsDirectly, DependsOn, itself, through}
+use Rattle.ga_causal.specs.Equivalence.{event_observes_node}
+use Rattle.ga_causal.proofs.OldestEventPlaces.{none_marked, DependsOn-order as ordered}
 use Rattle.std.proofs.lemmas.Option.{same_Some, slice_get_within}
 use Rattle.std.proofs.lemmas.Grind.{get_or-set_at}
 use Rattle.ga_grid.specs.declared.node_id.NodeId.{NodeId}
-use Rattle.ga_picture.specs.inner.{AreLines}
+use Rattle.ga_picture.specs.inner.{AreLinesOfNodes}
 use Rattle.ga_picture.specs.declared.shade.Shade.{Shade}
 use Rattle.ga_picture.specs.declared.shade.Shade.TheVariants.{Black, Grey, Red}
 use Rattle.ga_picture.specs.Drawing.{IsRemovedByRollback, IsCauseOfStep, IsShadeOfEvent}
@@ -33,31 +33,31 @@ any_at p (m ∷ ms) t = ⊎_elim
     (or_cases (p m) (list_any p ms) t)
 
 -- the first link of a chain of dependence
-pub record First (es : List Cause) (i j : ℕ) : Type 0 where
+pub record First (es : List EventWithLook) (i j : ℕ) : Type 0 where
   pub middle : ℕ
   pub direct : DependsDirectly es i middle
   pub more : DependsOn es middle j
 
-pub first_link : (es : List Cause) (i j : ℕ) → DependsOn es i j → (i ≡ j) ⊎ First es i j
+pub first_link : (es : List EventWithLook) (i j : ℕ) → DependsOn es i j → (i ≡ j) ⊎ First es i j
 first_link es i j itself = inl refl
 first_link es i j (through {middle} d s) = ⊎_elim
     (λ e. inr (record { middle = j; direct = subst (λ z. DependsDirectly es z j) (sym e) s; more = itself }))
     (λ f. inr (record { middle = f.middle; direct = f.direct; more = through {middle = middle} f.more s }))
     (first_link es i middle d)
 
-pub joined : (es : List Cause) (i m j : ℕ) → DependsDirectly es i m → DependsOn es m j → DependsOn es i j
+pub joined : (es : List EventWithLook) (i m j : ℕ) → DependsDirectly es i m → DependsOn es m j → DependsOn es i j
 joined es i m j s itself = through {middle = i} itself s
 joined es i m j s (through {middle} d t) = through {middle = middle} (joined es i m middle s d) t
 
 -- an event from a place on, on which the last depends, sees the node
-pub record IsWanted (es : List Cause) (last at n : ℕ) : Type 0 where
+pub record IsWanted (es : List EventWithLook) (last at n : ℕ) : Type 0 where
   pub middle : ℕ
   pub behind : at ≤ middle
   pub depends : DependsOn es middle last
-  pub seen : observes (event_at es middle) n ≡ true
+  pub seen : event_observes_node (event_at es middle) n ≡ true
 
 -- what holds once the events from a place on are looked at
-pub record AreGrounds (es : List Cause) (last at : ℕ) (flags : List Bool) (marks : ℕ → Bool) : Type 0 where
+pub record AreGrounds (es : List EventWithLook) (last at : ℕ) (flags : List Bool) (marks : ℕ → Bool) : Type 0 where
   pub size : length flags ≡ length es
   pub done : (j : ℕ) → at ≤ j → j < length es → IsTrue (slice_index_or flags j false) ↔ DependsOn es j last
   pub ahead : (j : ℕ) → j < at → slice_index_or flags j false ≡ false
@@ -65,31 +65,31 @@ pub record AreGrounds (es : List Cause) (last at : ℕ) (flags : List Bool) (mar
   pub back : (n : ℕ) → IsWanted es last at n → marks n ≡ true
 
 -- an event that touches a wanted node
-direct_to : (es : List Cause) (last at n : ℕ) → last < length es → IsWanted es last (at + 1) n → cause_touches (event_at es at) n ≡ true → DependsOn es at last
-unfolding observed_by
+direct_to : (es : List EventWithLook) (last at n : ℕ) → last < length es → IsWanted es last (at + 1) n → event_with_look_touches_node (event_at es at) n ≡ true → DependsOn es at last
+unfolding nodes_observed_by_event
 direct_to es last at n within w t = joined es at w.middle last
     (record {
       before = omega (arith, w.behind);
       within = omega (arith, ordered es w.middle last w.depends);
-      by_rule = meets_rule (event_at es at) (event_at es w.middle) (any_of_one (cause_touches (event_at es at)) n t (observed_by (event_at es w.middle)) w.seen);
+      by_rule = meets_rule (event_at es at) (event_at es w.middle) (any_of_one (event_with_look_touches_node (event_at es at)) n t (nodes_observed_by_event (event_at es w.middle)) w.seen);
     })
     w.depends
 
-pub met_depends : (es : List Cause) (last at : ℕ) (flags : List Bool) (marks : ℕ → Bool) → last < length es → AreGrounds es last (at + 1) flags marks → list_any marks (touched_nodes (event_at es at)) ≡ true → DependsOn es at last
+pub met_depends : (es : List EventWithLook) (last at : ℕ) (flags : List Bool) (marks : ℕ → Bool) → last < length es → AreGrounds es last (at + 1) flags marks → list_any marks (touched_nodes (event_at es at)) ≡ true → DependsOn es at last
 met_depends es last at flags marks within g t =
     let r = any_at marks (touched_nodes (event_at es at)) t in
     direct_to es last at r.0 within (g.into r.0 r.2) r.1
 
-pub depends_met : (es : List Cause) (last at : ℕ) (flags : List Bool) (marks : ℕ → Bool) → at < last → AreGrounds es last (at + 1) flags marks → DependsOn es at last → list_any marks (touched_nodes (event_at es at)) ≡ true
-unfolding observed_by
+pub depends_met : (es : List EventWithLook) (last at : ℕ) (flags : List Bool) (marks : ℕ → Bool) → at < last → AreGrounds es last (at + 1) flags marks → DependsOn es at last → list_any marks (touched_nodes (event_at es at)) ≡ true
+unfolding nodes_observed_by_event
 depends_met es last at flags marks under g d = ⊎_elim
     (λ e. absurd (omega (arith, e)))
-    (λ f. let r = any_at (cause_touches (event_at es at)) (observed_by (event_at es f.middle)) (rule_meets (event_at es at) (event_at es f.middle) f.direct.by_rule) in
+    (λ f. let r = any_at (event_with_look_touches_node (event_at es at)) (nodes_observed_by_event (event_at es f.middle)) (rule_meets (event_at es at) (event_at es f.middle) f.direct.by_rule) in
     any_of_one marks r.0 (g.back r.0 (record { middle = f.middle; behind = omega (arith, f.direct.before); depends = f.more; seen = r.1 })) (touched_nodes (event_at es at)) r.2)
     (first_link es at last d)
 
 -- the last one is a ground of itself
-pub grounds_first : (es : List Cause) (last : ℕ) (marks : ℕ → Bool) → last < length es → ((n : ℕ) → marks n ≡ observes (event_at es last) n) → AreGrounds es last last (set (replicate (length es) false) last true) marks
+pub grounds_first : (es : List EventWithLook) (last : ℕ) (marks : ℕ → Bool) → last < length es → ((n : ℕ) → marks n ≡ event_observes_node (event_at es last) n) → AreGrounds es last last (set (replicate (length es) false) last true) marks
 grounds_first es last marks l m =
     let size : length (replicate (length es) false) ≡ length es = length-replicate (length es) false in
     let within : last < length (replicate (length es) false) = omega arith in
@@ -105,11 +105,11 @@ grounds_first es last marks l m =
       ahead = λ j u. get_or-set_other (replicate (length es) false) last j true false (λ e. omega (arith, e)) ∙ none_marked (length es) j;
       into = λ n t. record { middle = last; behind = omega arith; depends = itself; seen = sym (m n) ∙ t };
       back = λ n w. let same : w.middle ≡ last = omega (arith, w.behind, ordered es w.middle last w.depends) in
-          m n ∙ subst (λ z. observes (event_at es z) n ≡ true) same w.seen;
+          m n ∙ subst (λ z. event_observes_node (event_at es z) n ≡ true) same w.seen;
     }
 
 -- one event more, which touches a wanted node
-pub grounds_met : (es : List Cause) (last at : ℕ) (flags : List Bool) (marks more : ℕ → Bool) → last < length es → at < last → AreGrounds es last (at + 1) flags marks → list_any marks (touched_nodes (event_at es at)) ≡ true → ((n : ℕ) → more n ≡ (marks n || observes (event_at es at) n)) → AreGrounds es last at (set flags at true) more
+pub grounds_met : (es : List EventWithLook) (last at : ℕ) (flags : List Bool) (marks more : ℕ → Bool) → last < length es → at < last → AreGrounds es last (at + 1) flags marks → list_any marks (touched_nodes (event_at es at)) ≡ true → ((n : ℕ) → more n ≡ (marks n || event_observes_node (event_at es at) n)) → AreGrounds es last at (set flags at true) more
 grounds_met es last at flags marks more l u g t m =
     let here : DependsOn es at last = met_depends es last at flags marks l g t in
     let size : length flags ≡ length es = g.size in
@@ -124,15 +124,15 @@ grounds_met es last at flags marks more l u g t m =
       into = λ n s. ⊎_elim
           (λ v. let w = g.into n v in record { middle = w.middle; behind = omega (arith, w.behind); depends = w.depends; seen = w.seen })
           (λ v. record { middle = at; behind = omega arith; depends = here; seen = v })
-          (or_cases (marks n) (observes (event_at es at) n) (sym (m n) ∙ s));
+          (or_cases (marks n) (event_observes_node (event_at es at) n) (sym (m n) ∙ s));
       back = λ n w. m n ∙ elim (cases_eq w.middle at) [
-        | inl e ↦ or_right (marks n) (observes (event_at es at) n) (subst (λ z. observes (event_at es z) n ≡ true) e w.seen)
-        | inr ne ↦ or_left (marks n) (observes (event_at es at) n) (g.back n (record { middle = w.middle; behind = omega (arith, w.behind, ne); depends = w.depends; seen = w.seen }))
+        | inl e ↦ or_right (marks n) (event_observes_node (event_at es at) n) (subst (λ z. event_observes_node (event_at es z) n ≡ true) e w.seen)
+        | inr ne ↦ or_left (marks n) (event_observes_node (event_at es at) n) (g.back n (record { middle = w.middle; behind = omega (arith, w.behind, ne); depends = w.depends; seen = w.seen }))
       ];
     }
 
 -- one event more, which touches none
-pub grounds_not : (es : List Cause) (last at : ℕ) (flags : List Bool) (marks : ℕ → Bool) → last < length es → at < last → AreGrounds es last (at + 1) flags marks → list_any marks (touched_nodes (event_at es at)) ≡ false → AreGrounds es last at flags marks
+pub grounds_not : (es : List EventWithLook) (last at : ℕ) (flags : List Bool) (marks : ℕ → Bool) → last < length es → at < last → AreGrounds es last (at + 1) flags marks → list_any marks (touched_nodes (event_at es at)) ≡ false → AreGrounds es last at flags marks
 grounds_not es last at flags marks l u g f =
     let free : ¬ DependsOn es at last = λ d. both_ways (list_any marks (touched_nodes (event_at es at))) f (depends_met es last at flags marks u g d) in
     record {
@@ -173,7 +173,7 @@ get_pushed [] y (suc i) x e = absurd (none_at i x e)
 get_pushed (z ∷ xs) y zero x e = inl e
 get_pushed (z ∷ xs) y (suc i) x e = ⊎_elim inl (λ q. inr (ap suc q.0, q.1)) (get_pushed xs y i x e)
 
-pub lines_none : (used : ℕ → Bool) → AreLines used [] (replicate 144 0) 0
+pub lines_none : (used : ℕ → Bool) → AreLinesOfNodes used [] (replicate 144 0) 0
 lines_none used = record {
   size = length-replicate {A = ℕ} 144 0;
   few = omega arith;
@@ -184,7 +184,7 @@ lines_none used = record {
 }
 
 -- a node without a line
-pub lines_same : (used : ℕ → Bool) (lines : List NodeId) (columns : List ℕ) (k : ℕ) → AreLines used lines columns k → used k ≡ false → AreLines used lines columns (k + 1)
+pub lines_same : (used : ℕ → Bool) (lines : List NodeId) (columns : List ℕ) (k : ℕ) → AreLinesOfNodes used lines columns k → used k ≡ false → AreLinesOfNodes used lines columns (k + 1)
 lines_same used lines columns k a f = record {
   size = a.size;
   few = omega (arith, a.few);
@@ -198,7 +198,7 @@ lines_same used lines columns k a f = record {
 }
 
 -- a node with a line
-pub lines_more : (used : ℕ → Bool) (lines : List NodeId) (columns : List ℕ) (k : ℕ) (node : NodeId) → k < 144 → node.number ≡ k → AreLines used lines columns k → used k ≡ true → AreLines used (lines ++ node ∷ []) (set columns k (length lines)) (k + 1)
+pub lines_more : (used : ℕ → Bool) (lines : List NodeId) (columns : List ℕ) (k : ℕ) (node : NodeId) → k < 144 → node.number ≡ k → AreLinesOfNodes used lines columns k → used k ≡ true → AreLinesOfNodes used (lines ++ node ∷ []) (set columns k (length lines)) (k + 1)
 lines_more used lines columns k node l is a t =
     let size : length columns ≡ 144 = a.size in
     let within : k < length columns = omega arith in
@@ -228,7 +228,7 @@ lines_more used lines columns k node l is a t =
 
 -- ---- colours put one after another
 
-pub is_shade : (es : List Cause) (cause rewind : Option ℕ) (place : ℕ) (goes leads : Bool) (s : Shade) → IsTrue goes ↔ IsRemovedByRollback es rewind place → IsTrue leads ↔ IsCauseOfStep es cause place
+pub is_shade : (es : List EventWithLook) (cause rewind : Option ℕ) (place : ℕ) (goes leads : Bool) (s : Shade) → IsTrue goes ↔ IsRemovedByRollback es rewind place → IsTrue leads ↔ IsCauseOfStep es cause place
     → (goes ≡ true → s ≡ Red) → (goes ≡ false → leads ≡ true → s ≡ Black) → (goes ≡ false → leads ≡ false → s ≡ Grey) → IsShadeOfEvent es cause rewind place s
 is_shade es cause rewind place goes leads s g l red black grey = ⊎_elim
     (λ t. subst (λ z. IsShadeOfEvent es cause rewind place z) (sym (red t)) (g.0 t))
@@ -239,14 +239,14 @@ is_shade es cause rewind place goes leads s g l red black grey = ⊎_elim
     (cases_Bool goes)
 
 -- what holds once the first events have their colours
-pub record AreSome (es : List Cause) (cause rewind : Option ℕ) (place : ℕ) (shades : List Shade) : Type 0 where
+pub record AreSome (es : List EventWithLook) (cause rewind : Option ℕ) (place : ℕ) (shades : List Shade) : Type 0 where
   pub count : length shades ≡ place
   pub exact : (k : ℕ) (s : Shade) → slice_get shades k ≡ Some s → IsShadeOfEvent es cause rewind k s
 
-pub shades_none : (es : List Cause) (cause rewind : Option ℕ) → AreSome es cause rewind 0 []
+pub shades_none : (es : List EventWithLook) (cause rewind : Option ℕ) → AreSome es cause rewind 0 []
 shades_none es cause rewind = record { count = refl; exact = λ k s e. absurd (none_at k s e) }
 
-pub shades_more : (es : List Cause) (cause rewind : Option ℕ) (place : ℕ) (shades : List Shade) (s : Shade) → AreSome es cause rewind place shades → IsShadeOfEvent es cause rewind place s → AreSome es cause rewind (place + 1) (shades ++ s ∷ [])
+pub shades_more : (es : List EventWithLook) (cause rewind : Option ℕ) (place : ℕ) (shades : List Shade) (s : Shade) → AreSome es cause rewind place shades → IsShadeOfEvent es cause rewind place s → AreSome es cause rewind (place + 1) (shades ++ s ∷ [])
 shades_more es cause rewind place shades s a h =
     let count : length shades ≡ place = a.count in
     let more : length (shades ++ s ∷ []) ≡ length shades + 1 = length-append shades (s ∷ []) in

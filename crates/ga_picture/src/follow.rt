@@ -2,16 +2,16 @@
 ghost use Rattle.ga_text.specs.Output.{WritesText, ReadsAndWrites, ReadsAheadAndWrites};
 ghost use Rattle.std.specs.Prelude.{◌-◌};
 ghost use Rattle.ga_text.specs.Input.{IsWithinInputLimit, input_limit};
-ghost use Rattle.ga_explorer.specs.Opening.{image_text_of};
-ghost use Rattle.ga_picture.specs.Following.{IsSilentSessionResult, WritesRefusal};
-ghost use Rattle.ga_picture.specs.inner.{Goes, Ends};
+ghost use Rattle.ga_explorer.specs.Opening.{optional_image_text};
+ghost use Rattle.ga_picture.specs.Following.{IsSilentSessionResult, WritesPictureRefusal};
+ghost use Rattle.ga_picture.specs.inner.{ExecutesCommandsSilently, YieldsStateOrMemoryRefusal};
 
 use super::silent::SilentSession;
 use ga_console::{Status, serve_commands, status_of_commands_end};
 use ga_display::refusal_text;
 use ga_explorer::{Explorer, open_lab};
 use ga_lab::LabFault;
-use ga_text::{Input, Writer, write_all};
+use ga_text::{InputBuffer, Writer, write_all};
 use std::alloc::Global;
 use std::io::{Read, Write};
 
@@ -30,10 +30,10 @@ pub fn run_silent_session<R: Read, W: Write, E: Write>(
     chip: Option<Vec<u8>>,
     limit: u32,
 ) -> Result<Explorer, Status>
-    ensures { ReadsAndWrites (λ read rest text. IsSilentSessionResult (image_text_of chip) limit read rest text result)
+    ensures { ReadsAndWrites (λ read rest text. IsSilentSessionResult (optional_image_text chip) limit read rest text result)
         (R.remaining reader.old) (R.remaining reader.new) (W.contents writer.old) (W.contents writer.new) }
 {
-    let mut input = Input::new();
+    let mut input = InputBuffer::new();
     match open_lab(alloc, &mut input, reader, writer, errors, chip, limit) {
         Ok(begun) => follow(alloc, &mut input, reader, writer, begun),
         Err(status) => Err(status),
@@ -43,13 +43,13 @@ pub fn run_silent_session<R: Read, W: Write, E: Write>(
 /// Follows commands.
 fn follow<R: Read, W: Write>(
     alloc: Global,
-    input: &mut Input,
+    input: &mut InputBuffer,
     reader: &mut R,
     writer: &mut W,
     explorer: Explorer,
 ) -> Result<Explorer, Status>
     requires { IsWithinInputLimit input.old }
-    ensures { ReadsAheadAndWrites input.old.bytes (λ read rest text. Goes (input_limit - input.old.taken) explorer read rest text result)
+    ensures { ReadsAheadAndWrites input.old.bytes (λ read rest text. ExecutesCommandsSilently (input_limit - input.old.taken) explorer read rest text result)
         (R.remaining reader.old) (R.remaining reader.new) (W.contents writer.old) (W.contents writer.new) }
 {
     let mut session = SilentSession {
@@ -66,7 +66,7 @@ fn follow<R: Read, W: Write>(
 
 /// What was reached, or the refusal for want of memory.
 fn reached<W: Write>(writer: &mut W, session: SilentSession) -> Result<Explorer, Status>
-    ensures { WritesText (λ text. Ends session.explorer session.short text result) (W.contents writer.old) (W.contents writer.new) }
+    ensures { WritesText (λ text. YieldsStateOrMemoryRefusal session.explorer session.short text result) (W.contents writer.old) (W.contents writer.new) }
 {
     if session.short {
         return Err(write_refusal(writer, LabFault::Memory));
@@ -76,7 +76,7 @@ fn reached<W: Write>(writer: &mut W, session: SilentSession) -> Result<Explorer,
 
 /// Writes a refusal.
 pub(crate) fn write_refusal<W: Write>(writer: &mut W, fault: LabFault) -> Status
-    ensures { WritesText (λ text. WritesRefusal fault text result) (W.contents writer.old) (W.contents writer.new) }
+    ensures { WritesText (λ text. WritesPictureRefusal fault text result) (W.contents writer.old) (W.contents writer.new) }
 {
     match write_all(writer, refusal_text(fault)) {
         Ok(()) => Status::ImageRefused,

@@ -1,15 +1,15 @@
 //! The kept events as a picture takes them.
 
 ghost use Rattle.std.specs.Prelude.{◌≡◌, ◌≤◌, ◌<◌, ◌&&◌, ◌||◌, not, ℕ, Bool, false, length, map, is_some, slice_index_or, IfOk, if◌then◌else◌};
-ghost use Rattle.ga_event.specs.Apply.{equals_some};
-ghost use Rattle.ga_causal.specs.Dependence.{is_marked, is_transfer_event, cause_touches};
-ghost use Rattle.ga_picture.specs.Items.{acting_node_of_event, is_plain_event_at, is_requested_step, is_requested_shade, shows_requested_only, is_event_left_out, requires_node_line, picture_item, picture_item_at, picture_items, is_plain_event};
-ghost use Rattle.ga_picture.specs.Drawing.{item_without_node_events};
-ghost use Rattle.ga_picture.specs.inner.{ArePlainAs, known_in};
+ghost use Rattle.ga_event.specs.Apply.{equals_optional_number};
+ghost use Rattle.ga_causal.specs.Dependence.{is_node_flagged, is_transfer_event, event_with_look_touches_node};
+ghost use Rattle.ga_picture.specs.Items.{acting_node_of_event, is_plain_event_at, is_requested_step, is_requested_shade, shows_only_requested_events, is_event_left_out, requires_node_line, picture_item, picture_item_at, picture_items, is_plain_event};
+ghost use Rattle.ga_picture.specs.Drawing.{item_with_nodes_left_out};
+ghost use Rattle.ga_picture.specs.inner.{ArePlainEventsByReadyNodes, picture_facts_of_events};
 
 use crate::shade::Shade;
 use crate::view::PictureView;
-use ga_causal::{Cause, Memory};
+use ga_causal::{EventWithLook, OutOfMemoryError};
 use ga_event::Event;
 use ga_grid::NodeId;
 use std::alloc::Global;
@@ -18,7 +18,7 @@ use std::alloc::Global;
 #[derive(Clone, Copy, PartialEq, Eq)]
 pub struct PictureItem {
     /// The event, and whether it looks.
-    pub cause: Cause,
+    pub cause: EventWithLook,
     /// The event's colour.
     pub shade: Shade,
     /// Whether the event may be one of many that are drawn as one mark: a fetch or an opcode without a look, which isn't asked for.
@@ -33,7 +33,7 @@ pub struct PictureItem {
 #[derive(Clone, Copy)]
 pub(crate) struct EventFacts<'k> {
     /// The events.
-    pub(crate) events: &'k [Cause],
+    pub(crate) events: &'k [EventWithLook],
     /// The colours of the events.
     pub(crate) shades: &'k [Shade],
     /// Whether each event is a fetch or an opcode.
@@ -53,24 +53,24 @@ pub(crate) fn items(
     view: PictureView,
     from: usize,
     to: usize,
-) -> Result<Vec<PictureItem>, Memory>
+) -> Result<Vec<PictureItem>, OutOfMemoryError>
     requires order { from ≤ to }
     requires within { to ≤ length facts.events.now }
     requires shades { length facts.shades.now ≡ length facts.events.now }
     requires plain { length facts.plain.now ≡ length facts.events.now }
-    ensures { (ready : ℕ → Bool) → ArePlainAs ready facts.entry →
-        IfOk result (λ items. items.items ≡ map (item_without_node_events (is_marked alone.now)) (picture_items (known_in facts.entry ready) view from to)) }
+    ensures { (ready : ℕ → Bool) → ArePlainEventsByReadyNodes ready facts.entry →
+        IfOk result (λ items. items.items ≡ map (item_with_nodes_left_out (is_node_flagged alone.now)) (picture_items (picture_facts_of_events facts.entry ready) view from to)) }
 {
     let mut items = Vec::with_capacity(alloc, to - from)?;
     'events: for place in from..to {
-        items.push(item_without_node_events(alone, picture_item_at(facts, view, place)))?;
+        items.push(item_with_nodes_left_out(alone, picture_item_at(facts, view, place)))?;
     }
     Ok(items)
 }
 
 /// The event, which is left out where it is of one of these nodes.
-fn item_without_node_events(alone: &[bool; 144], item: PictureItem) -> PictureItem
-    ensures { result ≡ item_without_node_events (is_marked alone.now) item }
+fn item_with_nodes_left_out(alone: &[bool; 144], item: PictureItem) -> PictureItem
+    ensures { result ≡ item_with_nodes_left_out (is_node_flagged alone.now) item }
 {
     if has(alone, acting_node_of_event(item.cause.event)) {
         PictureItem {
@@ -91,7 +91,7 @@ pub(crate) fn picture_item_at(facts: EventFacts<'_>, view: PictureView, place: u
     requires plain { length facts.plain.now ≡ length facts.events.now }
     ensures { (ready : ℕ → Bool) →
         slice_index_or facts.entry.plain.now place false ≡ is_plain_event_at ready facts.entry.events.now place →
-        result ≡ picture_item_at (known_in facts.entry ready) view place }
+        result ≡ picture_item_at (picture_facts_of_events facts.entry ready) view place }
 {
     let cause = facts.events[place];
     let shade = facts.shades[place];
@@ -104,7 +104,7 @@ pub(crate) fn picture_item_at(facts: EventFacts<'_>, view: PictureView, place: u
 /// An event of a colour, which is plain, one of the requested steps, or of an idle node.
 fn picture_item(
     view: PictureView,
-    cause: Cause,
+    cause: EventWithLook,
     shade: Shade,
     plain: bool,
     named: bool,
@@ -123,7 +123,7 @@ fn picture_item(
 }
 
 /// Whether an event's node has to be drawn for it.
-fn requires_node_line(view: PictureView, cause: Cause, shade: Shade, plain: bool) -> bool
+fn requires_node_line(view: PictureView, cause: EventWithLook, shade: Shade, plain: bool) -> bool
     ensures { result ≡ requires_node_line view cause shade plain }
 {
     let works = plain || (cause.look && !view.races);
@@ -145,7 +145,7 @@ fn is_event_left_out(view: PictureView, idle: bool, shade: Shade) -> bool
     ensures { result ≡ is_event_left_out view idle shade }
 {
     let asked = is_asked(view, shade);
-    (!view.all && (idle && !asked)) || (shows_requested_only(view) && !asked)
+    (!view.all && (idle && !asked)) || (shows_only_requested_events(view) && !asked)
 }
 
 /// Whether one of the requested steps is at this place.
@@ -157,7 +157,7 @@ fn is_named(cause: Option<u32>, rewind: Option<u32>, place: usize) -> bool
 
 /// Whether a step is at this place.
 fn is_at(step: Option<u32>, place: usize) -> bool
-    ensures { result ≡ equals_some step place }
+    ensures { result ≡ equals_optional_number step place }
 {
     match step {
         Some(at) => at as usize == place,
@@ -167,14 +167,14 @@ fn is_at(step: Option<u32>, place: usize) -> bool
 
 /// Whether a node is one of these nodes.
 fn has(nodes: &[bool; 144], node: NodeId) -> bool
-    ensures { result ≡ is_marked nodes.now node.number }
+    ensures { result ≡ is_node_flagged nodes.now node.number }
 {
     nodes[node.index()]
 }
 
 /// Whether what isn't asked for is left out.
-fn shows_requested_only(view: PictureView) -> bool
-    ensures { result ≡ shows_requested_only view }
+fn shows_only_requested_events(view: PictureView) -> bool
+    ensures { result ≡ shows_only_requested_events view }
 {
     view.only && (view.cause.is_some() || view.rewind.is_some())
 }
@@ -204,12 +204,12 @@ pub(crate) fn acting_node_of_event(event: Event) -> NodeId
 /// event is its own; or there is none, and the node is ready.
 pub(crate) fn plain_events(
     alloc: Global,
-    events: &[Cause],
+    events: &[EventWithLook],
     ready: [bool; 144],
-) -> Result<Vec<bool>, Memory>
+) -> Result<Vec<bool>, OutOfMemoryError>
     ensures size { IfOk result (λ flags. length flags.items ≡ length events.now) }
     ensures exact { IfOk result (λ flags. (place : ℕ) → place < length events.now →
-        slice_index_or flags.items place false ≡ is_plain_event_at (is_marked ready) events.now place) }
+        slice_index_or flags.items place false ≡ is_plain_event_at (is_node_flagged ready) events.now place) }
 {
     let mut runs = ready;
     let mut flags = vec![in alloc; false; events.len()]?;
@@ -223,8 +223,8 @@ pub(crate) fn plain_events(
 }
 
 /// Whether an event is an own one and no look, of a node that runs after it.
-fn is_plain_event(event: Cause, runs: &[bool; 144]) -> bool
-    ensures { result ≡ is_plain_event (is_marked runs.now) event }
+fn is_plain_event(event: EventWithLook, runs: &[bool; 144]) -> bool
+    ensures { result ≡ is_plain_event (is_node_flagged runs.now) event }
 {
     match event.event {
         Event::Own(node) => !event.look && runs[node.index()],
@@ -233,8 +233,8 @@ fn is_plain_event(event: Cause, runs: &[bool; 144]) -> bool
 }
 
 /// Which nodes ran before an event: that of an own event, and none of a pass.
-fn go_back(runs: &mut [bool; 144], event: Cause)
-    ensures { (n : ℕ) → is_marked runs.new n ≡ (if cause_touches event n then not (is_transfer_event event.event) else is_marked runs.old n) }
+fn go_back(runs: &mut [bool; 144], event: EventWithLook)
+    ensures { (n : ℕ) → is_node_flagged runs.new n ≡ (if event_with_look_touches_node event n then not (is_transfer_event event.event) else is_node_flagged runs.old n) }
 {
     match event.event {
         Event::Own(node) => runs[node.index()] = true,

@@ -1,14 +1,14 @@
 //! The lines of the nodes, and which nodes are to have one.
 
 ghost use Rattle.std.specs.Prelude.{IfOk, ◌≡◌, ◌<◌, ℕ, true, false, length};
-ghost use Rattle.ga_causal.specs.Dependence.{is_marked, cause_touches};
-ghost use Rattle.ga_picture.specs.inner.{AreLines};
-ghost use Rattle.ga_picture.specs.Drawing.{HasDrawnEvent};
-ghost use Rattle.ga_picture.specs.Items.{item_at_place};
+ghost use Rattle.ga_causal.specs.Dependence.{is_node_flagged, event_with_look_touches_node};
+ghost use Rattle.ga_picture.specs.inner.{AreLinesOfNodes};
+ghost use Rattle.ga_picture.specs.Drawing.{IsNodeOfDrawnEvent};
+ghost use Rattle.ga_picture.specs.Items.{picture_item_at_index};
 
 use crate::item::PictureItem;
-use ga_causal::{Memory, NodeSet};
-use ga_grid::{CHIP_NODES, NodeId};
+use ga_causal::{NodeSet, OutOfMemoryError};
+use ga_grid::{CHIP_NODE_COUNT, NodeId};
 use std::alloc::Global;
 
 /// The nodes that have lines, and of each such node the index of its line.
@@ -19,12 +19,12 @@ pub(crate) struct Lines {
 }
 
 /// A line for each node that is used, by their numbers.
-pub(crate) fn lines_of(alloc: Global, used: &NodeSet) -> Result<Lines, Memory>
-    ensures { IfOk result (λ lines. AreLines (is_marked used.now) lines.nodes.items lines.columns 144) }
+pub(crate) fn lines_of(alloc: Global, used: &NodeSet) -> Result<Lines, OutOfMemoryError>
+    ensures { IfOk result (λ lines. AreLinesOfNodes (is_node_flagged used.now) lines.nodes.items lines.columns 144) }
 {
     let mut nodes = Vec::new(alloc);
-    let mut columns = [0; CHIP_NODES];
-    'nodes: for number in 0..CHIP_NODES as u8 {
+    let mut columns = [0; CHIP_NODE_COUNT];
+    'nodes: for number in 0..CHIP_NODE_COUNT as u8 {
         let node = NodeId::new(number);
         if used.has(node) {
             columns[number as usize] = nodes.as_slice().len() as u8;
@@ -36,14 +36,14 @@ pub(crate) fn lines_of(alloc: Global, used: &NodeSet) -> Result<Lines, Memory>
 
 /// The nodes that the events touch that are not left out.
 pub(crate) fn touched_by(items: &[PictureItem]) -> NodeSet
-    ensures needed { (n : ℕ) → is_marked result n ≡ true → HasDrawnEvent items.now n }
-    ensures all { (n place : ℕ) → place < length items.now → (item_at_place items.now place).out ≡ false →
-        cause_touches (item_at_place items.now place).cause n ≡ true → is_marked result n ≡ true }
+    ensures needed { (n : ℕ) → is_node_flagged result n ≡ true → IsNodeOfDrawnEvent items.now n }
+    ensures all { (n place : ℕ) → place < length items.now → (picture_item_at_index items.now place).out ≡ false →
+        event_with_look_touches_node (picture_item_at_index items.now place).cause n ≡ true → is_node_flagged result n ≡ true }
 {
     let mut touched = NodeSet::none();
     'items: for item in items {
         if !item.out {
-            touched.add_touched(&item.cause);
+            touched.add_touched_nodes(&item.cause);
         }
     }
     touched

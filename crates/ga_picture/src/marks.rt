@@ -2,7 +2,7 @@
 
 use crate::placing::{Drawing, DrawnShape};
 use crate::text::x_of;
-use ga_event::Made;
+use ga_event::MadeEvent;
 use ga_grid::{NodeId, neighbour};
 use ga_node::OwnEventKind;
 use ga_ports::Side;
@@ -16,7 +16,7 @@ pub(crate) fn push_event(
     drawing: &Drawing,
     y: u64,
     shape: DrawnShape,
-    made: Option<&Made>,
+    made: Option<&MadeEvent>,
 ) -> Result<(), AllocError> {
     match shape {
         DrawnShape::Mark {
@@ -41,11 +41,11 @@ fn push_own(
     drawing: &Drawing,
     at: (u32, u64),
     look: bool,
-    made: Option<&Made>,
+    made: Option<&MadeEvent>,
 ) -> Result<(), AllocError> {
     let (x, y) = at;
     match made {
-        Some(Made::Own { node, step, kind }) => {
+        Some(MadeEvent::Own { node, step, kind }) => {
             push_own_title(text, made, *kind)?;
             if look {
                 push_looks(text, drawing, x, y, *node)?;
@@ -68,13 +68,13 @@ fn push_many(
     text: &mut String,
     at: (u32, u64),
     steps: u32,
-    made: Option<&Made>,
+    made: Option<&MadeEvent>,
 ) -> Result<(), AllocError> {
     let (x, y) = at;
-    let Some(Made::Own { node, step, .. }) = made else {
+    let Some(MadeEvent::Own { node, step, .. }) = made else {
         return push_box(text, x, y);
     };
-    let name = node.yxx();
+    let name = node.decimal_name();
     let last = step.saturating_add(steps.saturating_sub(1));
     let (left, base) = (x.saturating_add(10), y.saturating_add(4));
     write!(
@@ -99,11 +99,11 @@ fn push_pass(
     from: u32,
     to: u32,
     y: u64,
-    made: Option<&Made>,
+    made: Option<&MadeEvent>,
 ) -> Result<(), AllocError> {
     match made {
         Some(
-            Made::Pass {
+            MadeEvent::Pass {
                 writer_step,
                 reader_step,
                 word,
@@ -136,7 +136,7 @@ fn word_of(kind: OwnEventKind) -> &'static str {
 /// Adds the text of an own event as a session prints it, with the opcode's name.
 fn push_own_title(
     text: &mut String,
-    made: Option<&Made>,
+    made: Option<&MadeEvent>,
     kind: OwnEventKind,
 ) -> Result<(), AllocError> {
     match (made, kind) {
@@ -149,7 +149,7 @@ fn push_own_title(
 }
 
 /// Adds the text of an event as a session prints it.
-fn push_title(text: &mut String, made: Option<&Made>) -> Result<(), AllocError> {
+fn push_title(text: &mut String, made: Option<&MadeEvent>) -> Result<(), AllocError> {
     match made {
         Some(made) => write!(text, "<title>{made}</title>"),
         None => Ok(()),

@@ -3,16 +3,16 @@
 ghost use Rattle.std.specs.Prelude.{◌==◌, ◌&&◌, ◌||◌, not, ◌≡◌, ◌<◌, ◌^◌, ℕ, true, false, List, length, slice_index, IfOk, ◌+◌};
 ghost use Rattle.std.specs.List.{All};
 ghost use Rattle.ga_grid.specs.declared.node_id.NodeId.{NodeId};
-ghost use Rattle.ga_picture.specs.Drawing.{IsDrawing, IsDrawnShape, IsLineOfNode, shade_of_shape, represented_events};
-ghost use Rattle.ga_picture.specs.Items.{folded_event_count, IsPlainOwnEvent};
-ghost use Rattle.ga_causal.specs.Dependence.{cause_touches, is_transfer_event};
+ghost use Rattle.ga_picture.specs.Drawing.{IsDrawingOfItems, IsShapeOfEvent, IsLineOfNode, shade_of_shape, event_count_of_shape};
+ghost use Rattle.ga_picture.specs.Items.{folded_event_count, IsOwnEventIfPlain};
+ghost use Rattle.ga_causal.specs.Dependence.{event_with_look_touches_node, is_transfer_event};
 
 use crate::independent::IndependentNode;
 use crate::item::{PictureItem, acting_node_of_event};
 use crate::lines::{Lines, lines_of, touched_by};
 use crate::runs::{Runs, runs_behind};
 use crate::shade::Shade;
-use ga_causal::Memory;
+use ga_causal::OutOfMemoryError;
 use ga_event::Event;
 use ga_grid::NodeId;
 use std::alloc::Global;
@@ -73,18 +73,18 @@ pub struct Drawing {
 ///
 /// # Errors
 /// `Memory`, also for more than 2^32 - 1 events, which no lab keeps.
-pub fn layout(
+pub fn lay_out_drawing(
     alloc: Global,
     items: &[PictureItem],
     independent_nodes: Vec<IndependentNode>,
     fold: u32,
-) -> Result<Drawing, Memory>
-    requires simple { All IsPlainOwnEvent items.now }
-    ensures drawn { IfOk result (λ drawing. IsDrawing items.now fold drawing) }
+) -> Result<Drawing, OutOfMemoryError>
+    requires simple { All IsOwnEventIfPlain items.now }
+    ensures drawn { IfOk result (λ drawing. IsDrawingOfItems items.now fold drawing) }
     ensures told { IfOk result (λ drawing. drawing.independent_nodes.items ≡ independent_nodes.items) }
 {
     if items.len() > u32::MAX as usize {
-        return Err(Memory);
+        return Err(OutOfMemoryError);
     }
     let Lines { nodes, columns } = lines_of(alloc, &touched_by(items))?;
     let behind = runs_behind(alloc, items)?;
@@ -94,7 +94,7 @@ pub fn layout(
         let item = items[place];
         let before = runs.count(acting_node_of_event(item.cause.event), item.shade);
         let steps = folded_event_count(&item, before, behind[place], fold);
-        if has_picture_row(&item, steps, before) {
+        if has_event_own_row(&item, steps, before) {
             rows.push(PictureRow {
                 place: place as u32,
                 shape: shape_of(&item, steps, &columns),
@@ -110,7 +110,7 @@ pub fn layout(
 }
 
 /// Whether an event has a row: one drawn together with `steps` events, with `before` of its run before it.
-fn has_picture_row(item: &PictureItem, steps: u32, before: u32) -> bool
+fn has_event_own_row(item: &PictureItem, steps: u32, before: u32) -> bool
     ensures { result ≡ (not item.now.out && ((steps == 1) || (before == 0))) }
 {
     !item.out && (steps == 1 || before == 0)
@@ -132,10 +132,10 @@ fn folded_event_count(item: &PictureItem, before: u32, behind: u32, fold: u32) -
 /// What is drawn of an event, or of a run that it begins.
 fn shape_of(item: &PictureItem, steps: u32, columns: &[u8; 144]) -> DrawnShape
     ensures drawn { (lines : List NodeId) →
-        ((n : ℕ) → cause_touches item.now.cause n ≡ true → IsLineOfNode lines (slice_index columns.now n) n) → IsDrawnShape item.now.cause lines result }
+        ((n : ℕ) → event_with_look_touches_node item.now.cause n ≡ true → IsLineOfNode lines (slice_index columns.now n) n) → IsShapeOfEvent item.now.cause lines result }
     ensures shaded { shade_of_shape result ≡ item.now.shade }
-    ensures steps { is_transfer_event item.now.cause.event ≡ false → represented_events result ≡ steps }
-    ensures one { is_transfer_event item.now.cause.event ≡ true → represented_events result ≡ 1 }
+    ensures steps { is_transfer_event item.now.cause.event ≡ false → event_count_of_shape result ≡ steps }
+    ensures one { is_transfer_event item.now.cause.event ≡ true → event_count_of_shape result ≡ 1 }
 {
     match item.cause.event {
         Event::Own(node) => DrawnShape::Mark {

@@ -1,11 +1,11 @@
 //! Marks of races, and the content of their groups.
 
 ghost use Rattle.std.specs.Prelude.{◌≡◌, ◌+◌, ◌==◌, ◌++◌, ◌<◌, ◌^◌, length, IfOk, OnOk};
-ghost use Rattle.ga_picture.specs.Picture.{step_of_race, row_index_from, race_mark_at_row, mark_of_race, all_race_marks};
+ghost use Rattle.ga_picture.specs.Picture.{step_of_race, row_index_of_event_from, race_mark_at_row, race_mark_of_step, all_race_marks};
 
 use crate::placing::{Drawing, DrawnShape, PictureRow};
 use crate::text::{x_of, y_of};
-use ga_causal::{Cause, Memory, position_of_step};
+use ga_causal::{EventWithLook, OutOfMemoryError, position_of_step};
 use ga_grid::NodeId;
 use ga_race_detector::{LookRace, Race};
 use ga_word::Word18;
@@ -32,7 +32,7 @@ pub struct RaceMark {
 /// The rows of a picture of some events, of which `start` of the oldest are left out.
 #[derive(Clone, Copy)]
 pub(crate) struct VisibleRows<'k> {
-    pub(crate) events: &'k [Cause],
+    pub(crate) events: &'k [EventWithLook],
     pub(crate) start: u32,
     pub(crate) rows: &'k [PictureRow],
 }
@@ -44,7 +44,7 @@ pub(crate) fn all_race_marks(
     shown: VisibleRows<'_>,
     races: &[Race],
     readings: &[LookRace],
-) -> Result<Vec<RaceMark>, Memory>
+) -> Result<Vec<RaceMark>, OutOfMemoryError>
     requires { length shown.events.now < 2 ^ 32 }
     ensures { IfOk result (λ marks. marks.items ≡ all_race_marks shown.entry.events.now shown.entry.start shown.entry.rows.now races.now readings.now) }
 {
@@ -59,10 +59,14 @@ pub(crate) fn all_race_marks(
 }
 
 /// Adds the mark of a step, where its event has a row.
-fn add(marks: &mut Vec<RaceMark>, shown: VisibleRows<'_>, what: RacingStep) -> Result<(), Memory>
+fn add(
+    marks: &mut Vec<RaceMark>,
+    shown: VisibleRows<'_>,
+    what: RacingStep,
+) -> Result<(), OutOfMemoryError>
     requires { length shown.events.now < 2 ^ 32 }
     ensures { OnOk result (marks.new.items ≡ marks.old.items
-        ++ mark_of_race shown.entry.events.now shown.entry.start shown.entry.rows.now what) }
+        ++ race_mark_of_step shown.entry.events.now shown.entry.start shown.entry.rows.now what) }
 {
     let (node, step) = step_of_race(&what);
     match position_of_step(shown.events, node, step) {
@@ -72,7 +76,11 @@ fn add(marks: &mut Vec<RaceMark>, shown: VisibleRows<'_>, what: RacingStep) -> R
 }
 
 /// Adds the mark of a step at a row, where there is one.
-fn add_at(marks: &mut Vec<RaceMark>, what: RacingStep, row: Option<usize>) -> Result<(), Memory>
+fn add_at(
+    marks: &mut Vec<RaceMark>,
+    what: RacingStep,
+    row: Option<usize>,
+) -> Result<(), OutOfMemoryError>
     ensures { OnOk result (marks.new.items ≡ marks.old.items ++ race_mark_at_row what row) }
 {
     if let Some(row) = row {
@@ -94,7 +102,7 @@ fn step_of_race(what: &RacingStep) -> (NodeId, u32)
 /// The index of the row of the event at a place, where it has one.
 #[tactic(auto, using(crate::proofs::Laid::row_next, crate::proofs::Laid::row_none))]
 fn row_of(rows: &[PictureRow], start: u32, place: u32) -> Option<usize>
-    ensures { result ≡ row_index_from rows.now start place 0 }
+    ensures { result ≡ row_index_of_event_from rows.now start place 0 }
 {
     'rows: for at in 0..rows.len() {
         let row = rows[at];
@@ -194,13 +202,13 @@ fn push_word(
 
 /// Adds a step, as the title has it.
 fn push_step(text: &mut String, node: NodeId, step: u32) -> Result<(), AllocError> {
-    let name = node.yxx();
+    let name = node.decimal_name();
     write!(text, "{name:03} {step}")
 }
 
 /// Adds what `races` prints of a pass.
 fn push_pass_title(text: &mut String, race: &Race) -> Result<(), AllocError> {
-    let (writer, other) = (race.writer.yxx(), race.other.yxx());
+    let (writer, other) = (race.writer.decimal_name(), race.other.decimal_name());
     let (word, offered) = (race.word.get(), race.offered.get());
     text.push_str("<title>")?;
     push_step(text, race.reader, race.step)?;
@@ -214,7 +222,11 @@ fn push_pass_title(text: &mut String, race: &Race) -> Result<(), AllocError> {
 
 /// Adds what `races` prints of a look.
 fn push_look_title(text: &mut String, reading: &LookRace) -> Result<(), AllocError> {
-    let (word, other, name) = (reading.word.get(), reading.other.get(), reading.node.yxx());
+    let (word, other, name) = (
+        reading.word.get(),
+        reading.other.get(),
+        reading.node.decimal_name(),
+    );
     text.push_str("<title>")?;
     push_step(text, reading.node, reading.step)?;
     write!(text, " reads {word:06x}, or {other:06x} ")?;

@@ -1,10 +1,10 @@
 //! A whole session that ends with a picture.
 ghost use Rattle.ga_text.specs.Output.{WritesText, ReadsAndWrites};
-ghost use Rattle.ga_explorer.specs.Opening.{image_text_of};
-ghost use Rattle.ga_picture.specs.Following.{WritesSessionPicture, WritesPicture, IsPictureOutput};
+ghost use Rattle.ga_explorer.specs.Opening.{optional_image_text};
+ghost use Rattle.ga_picture.specs.Following.{WritesSessionPicture, WritesPictureOrRefusal, IsPictureOutput};
 
 use super::follow::{run_silent_session, write_refusal};
-use super::view::{PictureView, picture};
+use super::view::{PictureView, picture_svg_text};
 use ga_console::Status;
 use ga_lab::Lab;
 use ga_text::write_all;
@@ -25,7 +25,7 @@ pub fn draw_session<R: Read, W: Write, E: Write>(
     limit: u32,
 ) -> Status
     // Where the streams tell their bytes: what was read, and what was written for it by the status.
-    ensures { ReadsAndWrites (λ read rest text. WritesSessionPicture (image_text_of chip) limit view read rest text result)
+    ensures { ReadsAndWrites (λ read rest text. WritesSessionPicture (optional_image_text chip) limit view read rest text result)
         (R.remaining reader.old) (R.remaining reader.new) (W.contents writer.old) (W.contents writer.new) }
 {
     match run_silent_session(alloc, reader, writer, errors, chip, limit) {
@@ -36,9 +36,9 @@ pub fn draw_session<R: Read, W: Write, E: Write>(
 
 /// Writes the picture of a lab's kept events, or why there is none.
 fn write_picture<W: Write>(writer: &mut W, lab: &mut Lab, view: PictureView) -> Status
-    ensures { WritesText (λ text. WritesPicture lab.old view text result) (W.contents writer.old) (W.contents writer.new) }
+    ensures { WritesText (λ text. WritesPictureOrRefusal lab.old view text result) (W.contents writer.old) (W.contents writer.new) }
 {
-    match picture(lab, view) {
+    match picture_svg_text(lab, view) {
         Ok(text) => write_out(writer, text.as_bytes()),
         Err(fault) => write_refusal(writer, fault),
     }

@@ -2,15 +2,15 @@
 
 ghost use Rattle.std.specs.Prelude.{◌≡◌, ◌<◌, ◌+◌, ◌^◌, ℕ, if◌then◌else◌, length, slice_index, slice_set, IfOk};
 ghost use Rattle.std.specs.List.{All};
-ghost use Rattle.ga_causal.specs.Equivalence.{observes};
+ghost use Rattle.ga_causal.specs.Equivalence.{event_observes_node};
 ghost use Rattle.ga_picture.specs.declared.shade.Shade.{Shade};
-ghost use Rattle.ga_picture.specs.Items.{run_length_with_event, run_events_after, is_same_shade, IsPlainOwnEvent};
-ghost use Rattle.ga_picture.specs.inner.{count_in, HasNodes, AreWithin};
+ghost use Rattle.ga_picture.specs.Items.{run_length_with_event, run_event_count_after, is_same_shade, IsOwnEventIfPlain};
+ghost use Rattle.ga_picture.specs.inner.{run_length_in_shade, HasOneRunPerNode, AreRunsWithinBound};
 
 use crate::item::{PictureItem, acting_node_of_event};
 use crate::shade::Shade;
-use ga_causal::{Memory, NodeSet};
-use ga_grid::{CHIP_NODES, NodeId};
+use ga_causal::{NodeSet, OutOfMemoryError};
+use ga_grid::{CHIP_NODE_COUNT, NodeId};
 use std::alloc::Global;
 
 /// The run of each node that reaches up to the event gone past last: how many events it has, and in which colour.
@@ -23,19 +23,19 @@ pub(crate) struct Runs {
 impl Runs {
     /// The runs before any event has come.
     pub(crate) fn new() -> Self
-        ensures sizes { HasNodes result }
-        ensures none { AreWithin result 0 }
+        ensures sizes { HasOneRunPerNode result }
+        ensures none { AreRunsWithinBound result 0 }
     {
         Runs {
-            counts: [0; CHIP_NODES],
-            shades: [Shade::Black; CHIP_NODES],
+            counts: [0; CHIP_NODE_COUNT],
+            shades: [Shade::Black; CHIP_NODE_COUNT],
         }
     }
 
     /// How many events the run of this node has in this colour.
     pub(crate) fn count(&self, node: NodeId, shade: Shade) -> u32
-        requires { HasNodes self.now }
-        ensures { result ≡ count_in self.now node.number shade }
+        requires { HasOneRunPerNode self.now }
+        ensures { result ≡ run_length_in_shade self.now node.number shade }
     {
         if is_same(self.shades[node.index()], shade) {
             self.counts[node.index()]
@@ -47,12 +47,12 @@ impl Runs {
     /// Processes an event: it is one more of its run, or ends the runs of the nodes that it touches or looks at.
     #[tactic(auto, using(crate::proofs::Running::with_added, crate::proofs::Running::within_added, crate::proofs::Running::with_ended))]
     pub(crate) fn pass(&mut self, item: &PictureItem)
-        requires sizes { HasNodes self.old }
-        requires few { AreWithin self.old 4294967294 }
-        requires simple { IsPlainOwnEvent item.now }
-        ensures sizes { HasNodes self.new }
-        ensures counts { (n : ℕ) (shade : Shade) → n < 144 → count_in self.new n shade ≡ run_length_with_event n shade item.now (count_in self.old n shade) }
-        ensures within { (bound : ℕ) → AreWithin self.old bound → AreWithin self.new (bound + 1) }
+        requires sizes { HasOneRunPerNode self.old }
+        requires few { AreRunsWithinBound self.old 4294967294 }
+        requires simple { IsOwnEventIfPlain item.now }
+        ensures sizes { HasOneRunPerNode self.new }
+        ensures counts { (n : ℕ) (shade : Shade) → n < 144 → run_length_in_shade self.new n shade ≡ run_length_with_event n shade item.now (run_length_in_shade self.old n shade) }
+        ensures within { (bound : ℕ) → AreRunsWithinBound self.old bound → AreRunsWithinBound self.new (bound + 1) }
     {
         if item.plain {
             self.add(acting_node_of_event(item.cause.event), item.shade);
@@ -63,10 +63,10 @@ impl Runs {
 
     /// Adds an event to the run of a node in this colour.
     fn add(&mut self, node: NodeId, shade: Shade)
-        requires sizes { HasNodes self.old }
-        requires few { AreWithin self.old 4294967294 }
-        ensures sizes { HasNodes self.new }
-        ensures counts { self.new.counts ≡ slice_set self.old.counts node.number (count_in self.old node.number shade + 1) }
+        requires sizes { HasOneRunPerNode self.old }
+        requires few { AreRunsWithinBound self.old 4294967294 }
+        ensures sizes { HasOneRunPerNode self.new }
+        ensures counts { self.new.counts ≡ slice_set self.old.counts node.number (run_length_in_shade self.old node.number shade + 1) }
         ensures shades { self.new.shades ≡ slice_set self.old.shades node.number shade }
     {
         let count = self.count(node, shade);
@@ -76,16 +76,16 @@ impl Runs {
 
     /// Ends the runs of the nodes that an event touches or looks at.
     fn end(&mut self, item: &PictureItem)
-        requires { HasNodes self.old }
-        ensures sizes { HasNodes self.new }
+        requires { HasOneRunPerNode self.old }
+        ensures sizes { HasOneRunPerNode self.new }
         ensures counts { (n : ℕ) → n < 144 →
-            slice_index self.new.counts n ≡ (if observes item.now.cause n then 0 else slice_index self.old.counts n) }
+            slice_index self.new.counts n ≡ (if event_observes_node item.now.cause n then 0 else slice_index self.old.counts n) }
         ensures shades { self.new.shades ≡ self.old.shades }
-        ensures within { (bound : ℕ) → AreWithin self.old bound → AreWithin self.new bound }
+        ensures within { (bound : ℕ) → AreRunsWithinBound self.old bound → AreRunsWithinBound self.new bound }
     {
         let mut seen = NodeSet::none();
-        seen.add_observed(&item.cause);
-        'nodes: for number in 0..CHIP_NODES as u8 {
+        seen.add_observed_nodes(&item.cause);
+        'nodes: for number in 0..CHIP_NODE_COUNT as u8 {
             if seen.has(NodeId::new(number)) {
                 self.counts[number as usize] = 0;
             }
@@ -106,12 +106,15 @@ fn is_same(one: Shade, other: Shade) -> bool
 }
 
 /// For each event, the number of later events in its run.
-pub(crate) fn runs_behind(alloc: Global, items: &[PictureItem]) -> Result<Vec<u32>, Memory>
+pub(crate) fn runs_behind(
+    alloc: Global,
+    items: &[PictureItem],
+) -> Result<Vec<u32>, OutOfMemoryError>
     requires few { length items.now < 2 ^ 32 }
-    requires simple { All IsPlainOwnEvent items.now }
+    requires simple { All IsOwnEventIfPlain items.now }
     ensures size { IfOk result (λ counts. length counts.items ≡ length items.now) }
     ensures exact { IfOk result (λ counts. (place : ℕ) → place < length items.now →
-        slice_index counts.items place ≡ run_events_after items.now place) }
+        slice_index counts.items place ≡ run_event_count_after items.now place) }
 {
     let mut runs = Runs::new();
     let mut counts = vec![in alloc; 0; items.len()]?;

@@ -4,7 +4,7 @@ ghost use Rattle.std.specs.Prelude.{◌≡◌, ◌↔◌, ◌<◌, ℕ, true, fa
 ghost use Rattle.ga_picture.specs.Drawing.{AreShadesOfEvents, IsRemovedByRollback, IsCauseOfStep};
 ghost use Rattle.ga_causal.specs.Dependence.{DependsOn};
 
-use ga_causal::{Cause, Memory, NodeSet, find_dependents};
+use ga_causal::{EventWithLook, NodeSet, OutOfMemoryError, find_dependents};
 use std::alloc::Global;
 
 /// How an event is emphasized. In print each colour has its weight too.
@@ -20,12 +20,12 @@ pub enum Shade {
 
 /// The colour of each event: red where it depends on the event at `rewind`, which a rollback would take with it; grey where
 /// the one at `cause` doesn't depend on it; else black. Walks over the events once for each of the two that is given.
-pub fn shades(
+pub fn find_event_shades(
     alloc: Global,
-    events: &[Cause],
+    events: &[EventWithLook],
     cause: Option<u32>,
     rewind: Option<u32>,
-) -> Result<Vec<Shade>, Memory>
+) -> Result<Vec<Shade>, OutOfMemoryError>
     requires cause { IfSome cause (λ place. place < length events.now) }
     requires rewind { IfSome rewind (λ place. place < length events.now) }
     ensures { IfOk result (λ shades. AreShadesOfEvents events.now cause rewind shades.items) }
@@ -40,7 +40,11 @@ pub fn shades(
 }
 
 /// Of each event, whether the one at the place depends on it; without a place all count as such.
-fn leading(alloc: Global, events: &[Cause], cause: Option<u32>) -> Result<Vec<bool>, Memory>
+fn leading(
+    alloc: Global,
+    events: &[EventWithLook],
+    cause: Option<u32>,
+) -> Result<Vec<bool>, OutOfMemoryError>
     requires { IfSome cause (λ place. place < length events.now) }
     ensures size { IfOk result (λ flags. length flags.items ≡ length events.now) }
     ensures exact { IfOk result (λ flags.
@@ -53,7 +57,11 @@ fn leading(alloc: Global, events: &[Cause], cause: Option<u32>) -> Result<Vec<bo
 }
 
 /// Of each event, whether it depends on the one at the place; without a place none does.
-fn going(alloc: Global, events: &[Cause], rewind: Option<u32>) -> Result<Vec<bool>, Memory>
+fn going(
+    alloc: Global,
+    events: &[EventWithLook],
+    rewind: Option<u32>,
+) -> Result<Vec<bool>, OutOfMemoryError>
     requires { IfSome rewind (λ place. place < length events.now) }
     ensures size { IfOk result (λ flags. length flags.items ≡ length events.now) }
     ensures exact { IfOk result (λ flags.
@@ -82,7 +90,11 @@ fn shade_for(goes: bool, leads: bool) -> Shade
 
 /// Of each event of the list, whether the one at the place depends on it. Places count from 0. Walks once back over the events
 /// before the place.
-pub fn find_causes(alloc: Global, events: &[Cause], place: u32) -> Result<Vec<bool>, Memory>
+pub fn find_causes(
+    alloc: Global,
+    events: &[EventWithLook],
+    place: u32,
+) -> Result<Vec<bool>, OutOfMemoryError>
     requires { place < length events.now }
     ensures size { IfOk result (λ flags. length flags.items ≡ length events.now) }
     ensures exact { IfOk result (λ flags.
@@ -92,13 +104,13 @@ pub fn find_causes(alloc: Global, events: &[Cause], place: u32) -> Result<Vec<bo
     let mut flags = vec![in alloc; false; events.len()]?;
     let mut wanted = NodeSet::none();
     flags[last] = true;
-    wanted.add_observed(&events[last]);
+    wanted.add_observed_nodes(&events[last]);
     'events: for back in 0..last {
         let at = last - 1 - back;
         let event = &events[at];
         if wanted.is_touched_by(event) {
             flags[at] = true;
-            wanted.add_observed(event);
+            wanted.add_observed_nodes(event);
         }
     }
     Ok(flags)

@@ -1,15 +1,15 @@
 //! A session that says nothing.
 ghost use Rattle.std.specs.Prelude.{◌≡◌, ◌↔◌, [], Some, Ok, IsTrue};
 ghost use Rattle.ga_text.specs.Lines.{Bytes};
-ghost use Rattle.ga_text.specs.Output.{IsTextWritten};
+ghost use Rattle.ga_text.specs.Output.{IsTextWrittenOrPending};
 ghost use Rattle.ga_console.specs.declared.responder.LineAction.TheVariants.{Quit};
-ghost use Rattle.ga_console.specs.Session.{EndsSessionAtNoAnswer};
-ghost use Rattle.ga_console.specs.inner.Run.{AnswersOrEnds, ObeysCommand};
+ghost use Rattle.ga_console.specs.Session.{NeverAnswersAndEnds};
+ghost use Rattle.ga_console.specs.inner.Run.{AnswersLineOrEnds, AnswersCommandOrEnds};
 ghost use Rattle.ga_picture.specs.Following.{IsOutOfMemoryAnswer};
-ghost use Rattle.ga_picture.specs.inner.{Notes};
+ghost use Rattle.ga_picture.specs.inner.{NotesFailedAllocation};
 ghost use Rattle.ga_explorer.specs.Answers.{AnswersExplorerLine};
 
-use ga_console::{Command, LineAction, Responder};
+use ga_console::{DebuggerCommand, LineAction, Responder};
 use ga_display::advised_refusal_text;
 use ga_explorer::Explorer;
 use ga_lab::{Lab, LabFault};
@@ -29,8 +29,8 @@ pub struct SilentSession {
 impl SilentSession {
     /// Answers a line, of which at least the first 201 bytes are here, and says nothing.
     fn hear(&mut self, alloc: Global, line: &[u8]) -> LineAction
-        ensures heard { (answer : Bytes) × AnswersOrEnds AnswersExplorerLine EndsSessionAtNoAnswer self.old.explorer line.now self.new.explorer (Ok result) answer
-            × Notes self.old.short answer self.new.short }
+        ensures heard { (answer : Bytes) × AnswersLineOrEnds AnswersExplorerLine NeverAnswersAndEnds self.old.explorer line.now self.new.explorer (Ok result) answer
+            × NotesFailedAllocation self.old.short answer self.new.short }
         ensures ends { result ≡ Quit → self.new.short ≡ self.old.short }
     {
         let mut answer = Vec::new(alloc);
@@ -53,13 +53,16 @@ impl SilentSession {
     }
 
     /// Answers a line that spells a command of the debugger, and says nothing.
-    fn hear_command(&mut self, alloc: Global, command: Command) -> LineAction
-        ensures { (answer : Bytes) × ObeysCommand AnswersExplorerLine EndsSessionAtNoAnswer self.old.explorer command self.new.explorer (Ok result) answer
-            × Notes self.old.short answer self.new.short }
+    fn hear_command(&mut self, alloc: Global, command: DebuggerCommand) -> LineAction
+        ensures { (answer : Bytes) × AnswersCommandOrEnds AnswersExplorerLine NeverAnswersAndEnds self.old.explorer command self.new.explorer (Ok result) answer
+            × NotesFailedAllocation self.old.short answer self.new.short }
     {
         let mut answer = Vec::new(alloc);
         let mut said = Writer::new(&mut answer);
-        match self.explorer.obey(alloc, command, &mut said) {
+        match self
+            .explorer
+            .obey_debugger_command(alloc, command, &mut said)
+        {
             Ok(turn) => {
                 self.note(&mut said);
                 turn
@@ -74,7 +77,7 @@ impl SilentSession {
     /// Notes an answer that reports out of memory.
     fn note(&mut self, said: &mut Writer<'_, Vec<u8>>)
         ensures same { self.new.explorer ≡ self.old.explorer }
-        ensures noted { (answer : Bytes) → IsTextWritten (Some said.old.stream.now.items) [] answer said.old.pending.items → Notes self.old.short answer self.new.short }
+        ensures noted { (answer : Bytes) → IsTextWrittenOrPending (Some said.old.stream.now.items) [] answer said.old.pending.items → NotesFailedAllocation self.old.short answer self.new.short }
     {
         match said.flush() {
             Ok(()) => self.short = self.short || is_short(said.stream.as_slice()),
@@ -97,9 +100,9 @@ fn is_short(answer: &[u8]) -> bool
 impl Responder for SilentSession {
     ghost use Rattle.std.specs.Prelude.{false, None};
     ghost use Rattle.ga_explorer.specs.inner.{explorer_state};
-    ghost use Rattle.ga_picture.specs.inner.{HearsLine};
+    ghost use Rattle.ga_picture.specs.inner.{ExecutesLineSilently};
 
-    ghost answers = { λ m line said new. HearsLine m.explorer m.short line said new.explorer new.short };
+    ghost answers = { λ m line said new. ExecutesLineSilently m.explorer m.short line said new.explorer new.short };
 
     ghost begin = { λ s. record { explorer = explorer_state s None; short = false } };
 
@@ -119,10 +122,10 @@ impl Responder for SilentSession {
         Ok(self.hear(alloc, line))
     }
 
-    fn obey<W: Write>(
+    fn obey_debugger_command<W: Write>(
         &mut self,
         alloc: Global,
-        command: Command,
+        command: DebuggerCommand,
         _writer: &mut Writer<'_, W>,
     ) -> Result<LineAction, WriteError> {
         Ok(self.hear_command(alloc, command))

@@ -2,14 +2,14 @@
 
 ghost use Rattle.std.specs.Prelude.{◌≡◌, IfOk, string_bytes};
 ghost use Rattle.ga_picture.specs.Drawing.{shade_of_shape};
-ghost use Rattle.ga_picture.specs.Picture.{IsSvg, IsSvgGroup, AreSvgGroups, shade_group_tag, race_group_tag, race_group_tags};
-ghost use Rattle.ga_picture.specs.inner.{BeginsSvg};
+ghost use Rattle.ga_picture.specs.Picture.{IsSvgPicture, IsSvgGroup, AreSvgGroups, shade_group_tag, race_group_tag, race_group_tags};
+ghost use Rattle.ga_picture.specs.inner.{BeginsSvgText};
 
 use crate::marks::push_event;
 use crate::placing::{Drawing, DrawnShape};
 use crate::race_marks::{RaceMark, push_race};
 use crate::shade::Shade;
-use ga_event::Made;
+use ga_event::MadeEvent;
 use ga_grid::NodeId;
 use ga_node::OwnEventKind;
 use std::alloc::{AllocError, Global};
@@ -57,13 +57,13 @@ line,path,circle{stroke:#111;fill:none;stroke-width:1.2}
 ///
 /// # Errors
 /// Memory was refused.
-pub fn svg(
+pub fn format_svg(
     alloc: Global,
     drawing: &Drawing,
     marks: &[RaceMark],
-    mades: &[Made],
+    mades: &[MadeEvent],
 ) -> Result<String, AllocError>
-    ensures { IfOk result (λ text. IsSvg drawing.now.rows.items marks.now (string_bytes text)) }
+    ensures { IfOk result (λ text. IsSvgPicture drawing.now.rows.items marks.now (string_bytes text)) }
 {
     let mut text = events(alloc, drawing, mades)?;
     let races = races(alloc, drawing, marks)?;
@@ -73,8 +73,8 @@ pub fn svg(
 }
 
 /// The head, and a group for each row.
-fn events(alloc: Global, drawing: &Drawing, mades: &[Made]) -> Result<String, AllocError>
-    ensures { IfOk result (λ text. BeginsSvg drawing.now.rows.items (string_bytes text)) }
+fn events(alloc: Global, drawing: &Drawing, mades: &[MadeEvent]) -> Result<String, AllocError>
+    ensures { IfOk result (λ text. BeginsSvgText drawing.now.rows.items (string_bytes text)) }
 {
     let mut text = head(alloc, drawing, mades)?;
     'rows: for at in 0..drawing.rows.len() {
@@ -103,7 +103,7 @@ fn group(
     drawing: &Drawing,
     row: usize,
     shape: DrawnShape,
-    made: Option<&Made>,
+    made: Option<&MadeEvent>,
 ) -> Result<String, AllocError>
     ensures { IfOk result (λ text. IsSvgGroup (shade_group_tag (shade_of_shape shape)) (string_bytes text)) }
 {
@@ -151,7 +151,7 @@ pub(crate) fn y_of(row: usize) -> u64 {
 }
 
 /// The part before the events: the size, the classes, each node's name and thin line, when it runs and waits, and the foot.
-fn head(alloc: Global, drawing: &Drawing, mades: &[Made]) -> Result<String, AllocError> {
+fn head(alloc: Global, drawing: &Drawing, mades: &[MadeEvent]) -> Result<String, AllocError> {
     let mut text = String::new(alloc);
     let width = x_of(drawing.lines.len().min(144) as u8).saturating_add(20);
     let height = y_of(drawing.rows.len());
@@ -179,7 +179,7 @@ fn head(alloc: Global, drawing: &Drawing, mades: &[Made]) -> Result<String, Allo
 fn push_foot(text: &mut String, drawing: &Drawing) -> Result<(), AllocError> {
     for (at, lone) in drawing.independent_nodes.iter().enumerate() {
         let y = y_of(drawing.rows.len().saturating_add(at)).saturating_add(4);
-        let (name, steps) = (lone.node.yxx(), lone.steps);
+        let (name, steps) = (lone.node.decimal_name(), lone.steps);
         let word = if steps == 1 { "step" } else { "steps" };
         write!(
             text,
@@ -191,7 +191,7 @@ fn push_foot(text: &mut String, drawing: &Drawing) -> Result<(), AllocError> {
 
 /// Adds a node's name and its thin line.
 fn push_name(text: &mut String, x: u32, node: NodeId, height: u64) -> Result<(), AllocError> {
-    let name = node.yxx();
+    let name = node.decimal_name();
     let bottom = height.saturating_sub(12);
     write!(text, "<text class='n' x='{x}' y='24'>{name:03}</text>")?;
     write!(
@@ -205,7 +205,7 @@ fn push_tracks(
     alloc: Global,
     text: &mut String,
     drawing: &Drawing,
-    mades: &[Made],
+    mades: &[MadeEvent],
 ) -> Result<(), AllocError> {
     let mut tracks = Tracks::new(alloc, drawing.lines.len())?;
     for (at, row) in drawing.rows.iter().enumerate() {
@@ -213,7 +213,7 @@ fn push_tracks(
             DrawnShape::Mark { line, .. } => {
                 let waits = matches!(
                     mades.get(row.place as usize),
-                    Some(Made::Own {
+                    Some(MadeEvent::Own {
                         kind: OwnEventKind::Wait,
                         ..
                     })

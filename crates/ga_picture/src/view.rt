@@ -2,41 +2,41 @@
 
 ghost use Rattle.std.specs.Prelude.{ℕ, Bool, ◌≡◌, ◌↔◌, ◌⊎◌, ◌<◌, ◌≤◌, ◌^◌, false, length, None, Err, IfOk, IfErr, IfSome, min, string_bytes};
 ghost use Rattle.std.specs.List.{All};
-ghost use Rattle.ga_grid.specs.Chip.{records_of};
-ghost use Rattle.ga_causal.specs.Dependence.{is_marked};
+ghost use Rattle.ga_grid.specs.Chip.{records_of_chip};
+ghost use Rattle.ga_causal.specs.Dependence.{is_node_flagged};
 ghost use Rattle.ga_causal.specs.Steps.{count_touching_events};
-ghost use Rattle.ga_lab.specs.Machine.{causes_of};
+ghost use Rattle.ga_lab.specs.Machine.{machine_events_with_looks};
 ghost use Rattle.ga_race_detector.specs.Races.{requested_races};
 ghost use Rattle.ga_race_detector.specs.Readings.{IsReportedLookRace, HasAllNearLookRaces};
-ghost use Rattle.ga_picture.specs.Picture.{IsPicture, IsPictureText, AreRaceMarks, is_node_ready, has_requested_steps, has_optional_step, step_place, optional_step_place};
+ghost use Rattle.ga_picture.specs.Picture.{IsPicture, IsPictureText, AreRaceMarks, is_node_ready, has_requested_steps, has_optional_step, event_position_of_step, optional_step_position};
 ghost use Rattle.ga_picture.specs.Items.{picture_items};
-ghost use Rattle.ga_picture.specs.inner.{AreItemsOf, AreKnownBetween, AreListed, ArePlainAs, known_in};
+ghost use Rattle.ga_picture.specs.inner.{AreItemsOfEvents, AreEventFactsKnownBetween, AreItemsAndIndependentNodes, ArePlainEventsByReadyNodes, picture_facts_of_events};
 
 use crate::independent::{IndependentNode, tally_of};
 use crate::item::{EventFacts, PictureItem, items, plain_events};
-use crate::placing::{Drawing, PictureRow, layout};
+use crate::placing::{Drawing, PictureRow, lay_out_drawing};
 use crate::race_marks::{RaceMark, VisibleRows, all_race_marks};
-use crate::shade::shades;
-use crate::text::svg;
-use ga_causal::{Cause, Memory, position_of_step};
+use crate::shade::find_event_shades;
+use crate::text::format_svg;
+use ga_causal::{EventWithLook, OutOfMemoryError, position_of_step};
 use ga_console::StepSelector;
 use ga_event::{Event, touches};
-use ga_grid::{CHIP_NODES, Chip, NodeId};
-use ga_lab::{Lab, LabFault, Made};
+use ga_grid::{CHIP_NODE_COUNT, Chip, NodeId};
+use ga_lab::{Lab, LabFault, MadeEvent};
 use ga_race_detector::{Races, find_races};
 use ga_scheduler::find_idle_nodes;
 use std::alloc::Global;
 
 /// A step: its node, and its number, counted from 1, or the last.
-pub type Step = (NodeId, StepSelector);
+pub type PictureStep = (NodeId, StepSelector);
 
 /// What a picture is to show of the kept events.
 #[derive(Clone, Copy, PartialEq, Eq)]
 pub struct PictureView {
     /// The step whose causes stand out.
-    pub cause: Option<Step>,
+    pub cause: Option<PictureStep>,
     /// The step of which all is marked that a rollback would take.
-    pub rewind: Option<Step>,
+    pub rewind: Option<PictureStep>,
     /// How many of the oldest events are left out.
     pub from: u32,
     /// How many of the oldest events are looked at: the last of these is the last one drawn.
@@ -55,7 +55,7 @@ pub struct PictureView {
 ///
 /// # Errors
 /// `NoStep`, where a node has no such step; then `Memory`.
-pub fn draw(lab: &Lab, view: PictureView) -> Result<Drawing, LabFault>
+pub fn draw_lab_history(lab: &Lab, view: PictureView) -> Result<Drawing, LabFault>
     ensures ok { IfOk result (λ drawing. IsPicture lab.now view drawing) }
     ensures refused { (result ≡ Err LabFault.NoStep) ↔ (has_requested_steps lab.now view ≡ false) }
     ensures err { IfErr result (λ why. (why ≡ LabFault.NoStep) ⊎ (why ≡ LabFault.Memory)) }
@@ -73,7 +73,7 @@ pub fn draw(lab: &Lab, view: PictureView) -> Result<Drawing, LabFault>
 ///
 /// # Errors
 /// `NoStep`, where a node has no such step; then `Memory`.
-pub fn picture(lab: &mut Lab, view: PictureView) -> Result<String, LabFault>
+pub fn picture_svg_text(lab: &mut Lab, view: PictureView) -> Result<String, LabFault>
     ensures ok { IfOk result (λ text. IsPictureText lab.old view (string_bytes text)) }
     ensures refused { (result ≡ Err LabFault.NoStep) ↔ (has_requested_steps lab.old view ≡ false) }
     ensures err { IfErr result (λ why. (why ≡ LabFault.NoStep) ⊎ (why ≡ LabFault.Memory)) }
@@ -96,7 +96,7 @@ fn has_requested_steps(lab: &Lab, view: PictureView) -> bool
 }
 
 /// Whether a step exists, if one is given.
-fn stands(lab: &Lab, step: Option<Step>) -> bool
+fn stands(lab: &Lab, step: Option<PictureStep>) -> bool
     ensures { result ≡ has_optional_step lab.now step }
 {
     match step {
@@ -106,7 +106,7 @@ fn stands(lab: &Lab, step: Option<Step>) -> bool
 }
 
 /// The picture of the kept events of a lab.
-fn drawn(lab: &Lab, view: PictureView) -> Result<Drawing, Memory>
+fn drawn(lab: &Lab, view: PictureView) -> Result<Drawing, OutOfMemoryError>
     ensures { IfOk result (λ drawing. IsPicture lab.now view drawing) }
 {
     let causes = kept_causes(lab)?;
@@ -117,35 +117,35 @@ fn drawn(lab: &Lab, view: PictureView) -> Result<Drawing, Memory>
         items,
         independent_nodes,
     } = picture_items(alloc, causes.as_slice(), &idle, ready, view)?;
-    layout(alloc, items.as_slice(), independent_nodes, view.fold)
+    lay_out_drawing(alloc, items.as_slice(), independent_nodes, view.fold)
 }
 
 /// The kept events, so few that a place has room in 32 bits.
-fn kept_causes(lab: &Lab) -> Result<Vec<Cause>, Memory>
-    ensures kept { IfOk result (λ causes. causes.items ≡ causes_of lab.now) }
+fn kept_causes(lab: &Lab) -> Result<Vec<EventWithLook>, OutOfMemoryError>
+    ensures kept { IfOk result (λ causes. causes.items ≡ machine_events_with_looks lab.now) }
     ensures few { IfOk result (λ causes. length causes.items < 2 ^ 32) }
 {
     let kept = lab.counts().kept;
     prove!(kept <= u32::MAX);
     match lab.causes() {
         Ok(causes) => Ok(causes),
-        Err(_) => Err(Memory),
+        Err(_) => Err(OutOfMemoryError),
     }
 }
 
 /// The nodes that neither wait nor are stopped.
 fn ready_nodes(chip: &Chip) -> [bool; 144]
-    ensures { (n : ℕ) → n < 144 → is_marked result n ≡ is_node_ready (records_of chip.now) n }
+    ensures { (n : ℕ) → n < 144 → is_node_flagged result n ≡ is_node_ready (records_of_chip chip.now) n }
 {
     let mut ready = [false; 144];
     'nodes: for number in 0..144u8 {
-        ready[number as usize] = chip.node(NodeId::new(number)).not_ready().is_none();
+        ready[number as usize] = chip.node(NodeId::new(number)).own_event_refusal().is_none();
     }
     ready
 }
 
 /// The text of the picture of a lab's kept events.
-fn written(lab: &mut Lab, view: PictureView) -> Result<String, Memory>
+fn written(lab: &mut Lab, view: PictureView) -> Result<String, OutOfMemoryError>
     ensures ok { IfOk result (λ text. IsPictureText lab.old view (string_bytes text)) }
     ensures same { lab.new ≡ lab.old }
 {
@@ -155,11 +155,11 @@ fn written(lab: &mut Lab, view: PictureView) -> Result<String, Memory>
     let alloc = *causes.allocator();
     let (from, to) = span(causes.len(), view);
     let Ok(mades) = reports(alloc, lab, causes.as_slice(), from, to) else {
-        return Err(Memory);
+        return Err(OutOfMemoryError);
     };
-    match svg(alloc, &drawing, marks.as_slice(), mades.as_slice()) {
+    match format_svg(alloc, &drawing, marks.as_slice(), mades.as_slice()) {
         Ok(text) => Ok(text),
-        Err(_) => Err(Memory),
+        Err(_) => Err(OutOfMemoryError),
     }
 }
 
@@ -168,7 +168,7 @@ fn race_marks(
     lab: &mut Lab,
     rows: &[PictureRow],
     view: PictureView,
-) -> Result<Vec<RaceMark>, Memory>
+) -> Result<Vec<RaceMark>, OutOfMemoryError>
     ensures ok { IfOk result (λ marks. AreRaceMarks lab.old view rows.now marks.items) }
     ensures same { lab.new ≡ lab.old }
 {
@@ -192,7 +192,7 @@ fn race_marks(
 }
 
 /// The passes and looks that could have come out otherwise.
-fn found_races(alloc: Global, lab: &mut Lab) -> Result<Races, Memory>
+fn found_races(alloc: Global, lab: &mut Lab) -> Result<Races, OutOfMemoryError>
     ensures list { IfOk result (λ races. races.list.items ≡ requested_races lab.old None) }
     ensures readings { IfOk result (λ races. All (IsReportedLookRace lab.old None) races.readings.items) }
     ensures none_missed { IfOk result (λ races. HasAllNearLookRaces lab.old None races.readings.items) }
@@ -200,7 +200,7 @@ fn found_races(alloc: Global, lab: &mut Lab) -> Result<Races, Memory>
 {
     match find_races(alloc, lab, None) {
         Ok(races) => Ok(races),
-        Err(_) => Err(Memory),
+        Err(_) => Err(OutOfMemoryError),
     }
 }
 
@@ -214,17 +214,17 @@ struct Listed {
 /// These events as the picture takes them.
 fn picture_items(
     alloc: Global,
-    events: &[Cause],
+    events: &[EventWithLook],
     idle: &[bool; 144],
     ready: [bool; 144],
     view: PictureView,
-) -> Result<Listed, Memory>
+) -> Result<Listed, OutOfMemoryError>
     requires { length events.now < 2 ^ 32 }
-    ensures { IfOk result (λ listed. AreItemsOf events.now (is_marked ready) (is_marked idle.now) view listed.items.items listed.independent_nodes.items) }
+    ensures { IfOk result (λ listed. AreItemsOfEvents events.now (is_node_flagged ready) (is_node_flagged idle.now) view listed.items.items listed.independent_nodes.items) }
 {
     let cause = place(events, view.cause);
     let rewind = place(events, view.rewind);
-    let shades = shades(alloc, events, cause, rewind)?;
+    let shades = find_event_shades(alloc, events, cause, rewind)?;
     let plain = plain_events(alloc, events, ready)?;
     let facts = EventFacts {
         events,
@@ -245,10 +245,10 @@ fn listed_between(
     view: PictureView,
     from: usize,
     to: usize,
-) -> Result<Listed, Memory>
-    requires { AreKnownBetween facts from to }
-    ensures { (ready : ℕ → Bool) → ArePlainAs ready facts.entry →
-        IfOk result (λ listed. AreListed (picture_items (known_in facts.entry ready) view from to) listed.items.items listed.independent_nodes.items) }
+) -> Result<Listed, OutOfMemoryError>
+    requires { AreEventFactsKnownBetween facts from to }
+    ensures { (ready : ℕ → Bool) → ArePlainEventsByReadyNodes ready facts.entry →
+        IfOk result (λ listed. AreItemsAndIndependentNodes (picture_items (picture_facts_of_events facts.entry ready) view from to) listed.items.items listed.independent_nodes.items) }
 {
     let tally = tally_of(facts, view, from, to);
     let alone = tally.independent_nodes();
@@ -272,9 +272,9 @@ fn span(count: usize, view: PictureView) -> (usize, usize)
 }
 
 /// The place of a step, where one is given.
-fn place(events: &[Cause], step: Option<Step>) -> Option<u32>
+fn place(events: &[EventWithLook], step: Option<PictureStep>) -> Option<u32>
     requires { length events.now < 2 ^ 32 }
-    ensures value { result ≡ optional_step_place events.now step }
+    ensures value { result ≡ optional_step_position events.now step }
     ensures within { IfSome result (λ place. place < length events.now) }
 {
     match step {
@@ -284,9 +284,9 @@ fn place(events: &[Cause], step: Option<Step>) -> Option<u32>
 }
 
 /// The place of a step of the node.
-fn place_of(events: &[Cause], node: NodeId, which: StepSelector) -> Option<u32>
+fn place_of(events: &[EventWithLook], node: NodeId, which: StepSelector) -> Option<u32>
     requires { length events.now < 2 ^ 32 }
-    ensures value { result ≡ step_place events.now node which }
+    ensures value { result ≡ event_position_of_step events.now node which }
     ensures within { IfSome result (λ place. place < length events.now) }
 {
     match which {
@@ -296,7 +296,7 @@ fn place_of(events: &[Cause], node: NodeId, which: StepSelector) -> Option<u32>
 }
 
 /// The number of events that touch a node.
-fn count_touching(events: &[Cause], node: NodeId) -> usize
+fn count_touching(events: &[EventWithLook], node: NodeId) -> usize
     ensures value { result ≡ count_touching_events node.number events.now }
     ensures within { result ≤ length events.now }
 {
@@ -314,18 +314,18 @@ fn count_touching(events: &[Cause], node: NodeId) -> usize
 fn reports(
     alloc: Global,
     lab: &Lab,
-    events: &[Cause],
+    events: &[EventWithLook],
     from: usize,
     to: usize,
-) -> Result<Vec<Made>, LabFault> {
+) -> Result<Vec<MadeEvent>, LabFault> {
     let mut told = Vec::new(alloc);
-    for number in 0..CHIP_NODES as u8 {
+    for number in 0..CHIP_NODE_COUNT as u8 {
         let history = lab.history(NodeId::new(number))?;
         if told.push(history).is_err() {
             return Err(LabFault::Memory);
         }
     }
-    let mut steps = [0u32; CHIP_NODES];
+    let mut steps = [0u32; CHIP_NODE_COUNT];
     let mut reports = Vec::new(alloc);
     for (place, event) in events.iter().take(to).enumerate() {
         let (node, step) = next_step(&mut steps, event.event);

@@ -1,7 +1,7 @@
 //! What an address names, and the address after it.
 
 ghost use Rattle.std.specs.Prelude.{◌≡◌, ◌<◌, ◌^◌};
-ghost use Rattle.ga_ports.specs.Address.{address_target, advanced_address, IsValidTarget};
+ghost use Rattle.ga_ports.specs.Address.{address_target, advanced_address, IsTargetInRange};
 
 use crate::side::PortSet;
 use ga_word::Word18;
@@ -25,7 +25,7 @@ pub enum AddressTarget {
 #[inline(always)]
 pub fn classify_address(address: u32) -> AddressTarget
     ensures value { result ≡ address_target address }
-    ensures in_range { IsValidTarget result }
+    ensures in_range { IsTargetInRange result }
 {
     let low = address % 512;
     if low / 256 == 1 {
@@ -36,7 +36,7 @@ pub fn classify_address(address: u32) -> AddressTarget
         if x == 0 || x % 16 != 0 {
             return AddressTarget::Bad;
         }
-        AddressTarget::Ports(PortSet::of((x / 16) as u8))
+        AddressTarget::Ports(PortSet::from_bits((x / 16) as u8))
     } else if low / 128 == 0 {
         AddressTarget::Ram((low % 64) as u8)
     } else {

@@ -1,11 +1,11 @@
 //! Sets of sides as texts.
 
 ghost use Rattle.std.specs.Prelude.{◌≡◌, ◌≤◌, IfSome};
-ghost use Rattle.ga_ports.specs.Address.{side_value, parse_side_set};
+ghost use Rattle.ga_ports.specs.Address.{side_letter_value, parse_side_set};
 
 /// The value of a letter of a set: the value of its side, or 0 for a hyphen.
-fn side_value(name: u8, value: u32, byte: u8) -> Option<u32>
-    ensures value { result ≡ side_value name value byte }
+fn side_letter_value(name: u8, value: u32, byte: u8) -> Option<u32>
+    ensures value { result ≡ side_letter_value name value byte }
     ensures in_range { IfSome result (λ v. v ≤ value) }
 {
     if byte == name {
@@ -25,10 +25,10 @@ pub fn parse_side_set(text: &[u8]) -> Option<u32>
 {
     match text {
         [right, down, left, up] => {
-            let right = side_value(b'r', 8, *right)?;
-            let down = side_value(b'd', 4, *down)?;
-            let left = side_value(b'l', 2, *left)?;
-            let up = side_value(b'u', 1, *up)?;
+            let right = side_letter_value(b'r', 8, *right)?;
+            let down = side_letter_value(b'd', 4, *down)?;
+            let left = side_letter_value(b'l', 2, *left)?;
+            let up = side_letter_value(b'u', 1, *up)?;
             Some(right + down + left + up)
         }
         _ => None,

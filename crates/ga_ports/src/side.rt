@@ -1,7 +1,7 @@
 //! Sides, and the sets of sides that an address names.
 
 ghost use Rattle.std.specs.Prelude.{◌≡◌, ◌<◌, ◌≤◌, IfSome, IsSome, ◌↔◌, IsTrue};
-ghost use Rattle.ga_ports.specs.Address.{single_side_set, has_side, side_of_single_set, sides_match, IsSingleSide};
+ghost use Rattle.ga_ports.specs.Address.{single_side_set, has_side, side_of_single_set, can_transfer_over_side, IsSingleSideSet};
 
 use std::marker::Model;
 
@@ -20,7 +20,7 @@ pub enum Side {
 
 impl Side {
     /// The side's number in a set.
-    pub fn bit(self) -> u8
+    pub fn bit_in_set(self) -> u8
         ensures value { result ≡ single_side_set self }
         ensures in_range { result ≤ 8 }
     {
@@ -65,7 +65,7 @@ impl PortSet {
     }
 
     /// The set of a number.
-    pub fn of(sides: u8) -> Self
+    pub fn from_bits(sides: u8) -> Self
         requires { (0 < sides) × (sides < 16) }
         ensures { result ≡ sides }
     {
@@ -93,10 +93,10 @@ impl PortSet {
     }
 
     /// The side, where the set has no other.
-    pub fn single(self) -> Option<Side>
+    pub fn only_side(self) -> Option<Side>
         ensures found { IfSome result (λ side. self ≡ single_side_set side) }
         ensures side { IfSome result (λ side. side ≡ side_of_single_set self) }
-        ensures none { IsSome result ↔ IsSingleSide self }
+        ensures none { IsSome result ↔ IsSingleSideSet self }
     {
         match self.sides {
             8 => Some(Side::Right),
@@ -109,8 +109,8 @@ impl PortSet {
 }
 
 /// Whether a node that waits reading a set and one that waits writing a side can transfer over a side.
-pub fn has_matching_sides(reads: PortSet, writes: Side, side: Side) -> bool
-    ensures { result ≡ sides_match reads writes side }
+pub fn is_transfer_possible_over_side(reads: PortSet, writes: Side, side: Side) -> bool
+    ensures { result ≡ can_transfer_over_side reads writes side }
 {
     reads.has(side) && writes == side
 }

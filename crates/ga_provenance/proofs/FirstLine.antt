@@ -4,20 +4,20 @@ use Rattle.std.specs.Prelude.{option_map, option_to_list}
 use Rattle.std.specs.List.{slice_get}
 use Rattle.std.proofs.lemmas.Option.{none-some}
 use Rattle.std.proofs.lemmas.Bool.{both_ways}
-use Rattle.ga_lab.specs.Machine.{State}
-use Rattle.ga_provenance.specs.declared.value.Value.{Value}
+use Rattle.ga_lab.specs.Machine.{MachineState}
+use Rattle.ga_provenance.specs.declared.value.PartValue.{PartValue}
 use Rattle.ga_provenance.specs.declared.lines.ProvenanceLine.{ProvenanceLine}
 use Rattle.ga_provenance.specs.Origins.{origin_of_value}
 use Rattle.ga_provenance.specs.Lines.{is_value_listed, provenance_line_of_use, next_unlisted_use, first_provenance_lines, AreProvenanceLinesOf}
 use Rattle.ga_provenance.proofs.Whole.{queried_listed}
 
 -- the first line is that of the step that made the value
-pub record HasFirst (s : State) (value : Value) (lines : List ProvenanceLine) : Type 0 where
+pub record HasFirst (s : MachineState) (value : PartValue) (lines : List ProvenanceLine) : Type 0 where
   pub line : ProvenanceLine
   pub first : slice_get lines 0 ≡ Some line
   pub made : line.value ≡ origin_of_value s value
 
-first_of : (s : State) (value : Value) (count : ℕ) → HasFirst s value (first_provenance_lines s value (suc count))
+first_of : (s : MachineState) (value : PartValue) (count : ℕ) → HasFirst s value (first_provenance_lines s value (suc count))
 first_of s value zero = record { line = provenance_line_of_use s [] (record { user = 0; used = value }); first = refl; made = refl }
 first_of s value (suc count) = go (first_of s value count)
   where
@@ -32,7 +32,7 @@ first_of s value (suc count) = go (first_of s value count)
       made = has.made;
     }
 
-pub first_line : (s : State) (value : Value) (lines : List ProvenanceLine) (whole : Bool) (most : ℕ) → AreProvenanceLinesOf s value lines whole → (whole ≡ false → length lines ≡ most) → 0 < most → HasFirst s value lines
+pub first_line : (s : MachineState) (value : PartValue) (lines : List ProvenanceLine) (whole : Bool) (most : ℕ) → AreProvenanceLinesOf s value lines whole → (whole ≡ false → length lines ≡ most) → 0 < most → HasFirst s value lines
 first_line s value lines whole most are cut some = go (length lines) refl
   where
     none : (b : Bool) → whole ≡ b → length lines ≡ 0 → ⊥

@@ -1,19 +1,19 @@
 //! The value that a step selects for a query.
 
 ghost use Rattle.std.specs.Prelude.{◌≡◌, ◌≤◌, ◌<◌, ◌+◌, ◌^◌, IfSome};
-ghost use Rattle.ga_ports.specs.Address.{address_target, IsValidTarget};
-ghost use Rattle.ga_node.specs.Record.{record_of};
-ghost use Rattle.ga_node.specs.Table.{next_action_of};
+ghost use Rattle.ga_ports.specs.Address.{address_target, IsTargetInRange};
+ghost use Rattle.ga_node.specs.Record.{record_of_node};
+ghost use Rattle.ga_node.specs.Table.{next_action_of_node};
 ghost use Rattle.ga_lab.specs.Machine.{node_at_step};
-ghost use Rattle.ga_event.specs.Flow.{IsNodePart};
-ghost use Rattle.ga_provenance.specs.Asked.{queried_read_part, queried_write_part, queried_opcode_part, queried_action_part, queried_take_part, queried_event_part, queried_part_value, queried_value};
-ghost use Rattle.ga_provenance.specs.inner.{IsAsked};
+ghost use Rattle.ga_event.specs.Flow.{IsNodePartInRange};
+ghost use Rattle.ga_provenance.specs.Asked.{queried_read_part, queried_write_part, queried_opcode_part, queried_action_part, queried_taken_word_part, queried_event_part, queried_part_value, queried_value};
+ghost use Rattle.ga_provenance.specs.inner.{IsNodePartIfAnyQueried};
 
-use crate::value::Value;
-use ga_event::{Made, NodePart, next_action_in};
+use crate::value::PartValue;
+use ga_event::{MadeEvent, NodePart, next_action_of_running_node};
 use ga_grid::NodeId;
 use ga_lab::{Lab, NodeWalk};
-use ga_node::{NextAction, Node, Place, Wait};
+use ga_node::{NextAction, Node, NodePlace, Wait};
 use ga_ports::{AddressTarget, classify_address};
 use ga_slots::Op;
 
@@ -29,36 +29,36 @@ pub(crate) enum QueriedPart {
 }
 
 // What P, A and B name.
-#[tactic(auto, unfolding(ga_node::specs::Record::record_of))]
+#[tactic(auto, unfolding(ga_node::specs::Record::record_of_node))]
 fn p_target(node: &Node) -> AddressTarget
-    ensures value { result ≡ address_target (record_of node.now).p }
-    ensures in_range { IsValidTarget result }
+    ensures value { result ≡ address_target (record_of_node node.now).p }
+    ensures in_range { IsTargetInRange result }
 {
-    classify_address(node.get(Place::P))
+    classify_address(node.get(NodePlace::P))
 }
 
-#[tactic(auto, unfolding(ga_node::specs::Record::record_of))]
+#[tactic(auto, unfolding(ga_node::specs::Record::record_of_node))]
 fn a_target(node: &Node) -> AddressTarget
-    ensures value { result ≡ address_target (record_of node.now).a }
-    ensures in_range { IsValidTarget result }
+    ensures value { result ≡ address_target (record_of_node node.now).a }
+    ensures in_range { IsTargetInRange result }
 {
-    classify_address(node.get(Place::A))
+    classify_address(node.get(NodePlace::A))
 }
 
-#[tactic(auto, unfolding(ga_node::specs::Record::record_of))]
+#[tactic(auto, unfolding(ga_node::specs::Record::record_of_node))]
 fn b_target(node: &Node) -> AddressTarget
-    ensures value { result ≡ address_target (record_of node.now).b }
-    ensures in_range { IsValidTarget result }
+    ensures value { result ≡ address_target (record_of_node node.now).b }
+    ensures in_range { IsTargetInRange result }
 {
-    classify_address(node.get(Place::B))
+    classify_address(node.get(NodePlace::B))
 }
 
 // The selected value of a read at what the address in a part names, whose word comes to the part `there`.
 fn asked_of_read(address: NodePart, there: NodePart, target: AddressTarget) -> QueriedPart
-    requires address { IsNodePart address }
-    requires there { IsNodePart there }
+    requires address { IsNodePartInRange address }
+    requires there { IsNodePartInRange there }
     ensures value { result ≡ queried_read_part address there target }
-    ensures part { IsAsked result }
+    ensures part { IsNodePartIfAnyQueried result }
 {
     match target {
         AddressTarget::Ram(_) => QueriedPart::PartAfter(there),
@@ -71,10 +71,10 @@ fn asked_of_read(address: NodePart, there: NodePart, target: AddressTarget) -> Q
 
 // The selected value of a write at what the address in a part names.
 fn asked_of_write(address: NodePart, target: AddressTarget) -> QueriedPart
-    requires address { IsNodePart address }
-    requires target { IsValidTarget target }
+    requires address { IsNodePartInRange address }
+    requires target { IsTargetInRange target }
     ensures value { result ≡ queried_write_part address target }
-    ensures part { IsAsked result }
+    ensures part { IsNodePartIfAnyQueried result }
 {
     match target {
         AddressTarget::Ram(k) => QueriedPart::PartAfter(NodePart::Ram(k)),
@@ -87,8 +87,8 @@ fn asked_of_write(address: NodePart, target: AddressTarget) -> QueriedPart
 
 // The selected value of a step that ran an opcode, by the node before.
 fn asked_of_op(op: Op, node: &Node) -> QueriedPart
-    ensures value { result ≡ queried_opcode_part op (record_of node.now) }
-    ensures part { IsAsked result }
+    ensures value { result ≡ queried_opcode_part op (record_of_node node.now) }
+    ensures part { IsNodePartIfAnyQueried result }
 {
     match op {
         Op::Return | Op::Execute => QueriedPart::PartAfter(NodePart::P),
@@ -115,10 +115,10 @@ fn asked_of_op(op: Op, node: &Node) -> QueriedPart
 
 // The selected value of an event of a node's own, by the node before.
 fn asked_of_own(before: &Node) -> QueriedPart
-    ensures value { result ≡ queried_action_part (next_action_of (record_of before.now)) (record_of before.now) }
-    ensures part { IsAsked result }
+    ensures value { result ≡ queried_action_part (next_action_of_node (record_of_node before.now)) (record_of_node before.now) }
+    ensures part { IsNodePartIfAnyQueried result }
 {
-    match next_action_in(before) {
+    match next_action_of_running_node(before) {
         NextAction::Fetch => asked_of_read(NodePart::P, NodePart::I, p_target(before)),
         NextAction::Run(op) => asked_of_op(op, before),
     }
@@ -126,8 +126,8 @@ fn asked_of_own(before: &Node) -> QueriedPart
 
 // The selected value of a step that took a word, by what the node waited for.
 fn asked_of_take(wait: Wait) -> QueriedPart
-    ensures value { result ≡ queried_take_part wait }
-    ensures part { IsAsked result }
+    ensures value { result ≡ queried_taken_word_part wait }
+    ensures part { IsNodePartIfAnyQueried result }
 {
     match wait {
         Wait::Fetch(_) => QueriedPart::PartAfter(NodePart::I),
@@ -138,13 +138,13 @@ fn asked_of_take(wait: Wait) -> QueriedPart
 }
 
 // The selected value of an event as made, by the node before.
-fn asked_of_told(made: &Made, before: &Node, node: NodeId) -> QueriedPart
-    ensures value { result ≡ queried_event_part made.now (record_of before.now) node.number }
-    ensures part { IsAsked result }
+fn asked_of_told(made: &MadeEvent, before: &Node, node: NodeId) -> QueriedPart
+    ensures value { result ≡ queried_event_part made.now (record_of_node before.now) node.number }
+    ensures part { IsNodePartIfAnyQueried result }
 {
     match made {
-        Made::Own { .. } => asked_of_own(before),
-        Made::Pass { reader, .. } => {
+        MadeEvent::Own { .. } => asked_of_own(before),
+        MadeEvent::Pass { reader, .. } => {
             if node.number == reader.number {
                 asked_of_take(before.wait())
             } else {
@@ -155,19 +155,19 @@ fn asked_of_told(made: &Made, before: &Node, node: NodeId) -> QueriedPart
 }
 
 // The selected value of the step after `place` steps of a node.
-fn value_of(node: NodeId, place: u32, asked: QueriedPart) -> Option<Value>
+fn value_of(node: NodeId, place: u32, asked: QueriedPart) -> Option<PartValue>
     requires fits { place + 1 < 2 ^ 32 }
-    requires part { IsAsked asked }
+    requires part { IsNodePartIfAnyQueried asked }
     ensures value { result ≡ queried_part_value node place asked }
-    ensures part { IfSome result (λ value. IsNodePart value.part) }
+    ensures part { IfSome result (λ value. IsNodePartInRange value.part) }
 {
     match asked {
-        QueriedPart::PartAfter(part) => Some(Value {
+        QueriedPart::PartAfter(part) => Some(PartValue {
             node,
             step: place + 1,
             part,
         }),
-        QueriedPart::PartBefore(part) => Some(Value {
+        QueriedPart::PartBefore(part) => Some(PartValue {
             node,
             step: place,
             part,
@@ -180,9 +180,9 @@ fn value_of(node: NodeId, place: u32, asked: QueriedPart) -> Option<Value>
 /// T before it; of a wait, a stop or a branch what decided it. None if it made no value, as `drop` or `.`, or doesn't exist.
 /// Takes time linear in the number of steps that the node made since.
 #[tactic(auto, using(crate::proofs::Made::has_step_so))]
-pub fn queried_value(lab: &Lab, node: NodeId, step: u32) -> Option<Value>
+pub fn queried_value(lab: &Lab, node: NodeId, step: u32) -> Option<PartValue>
     ensures value { result ≡ queried_value lab.now node step }
-    ensures part { IfSome result (λ value. IsNodePart value.part) }
+    ensures part { IfSome result (λ value. IsNodePartInRange value.part) }
 {
     if step == 0 {
         return None;
@@ -191,16 +191,16 @@ pub fn queried_value(lab: &Lab, node: NodeId, step: u32) -> Option<Value>
     if place >= lab.steps(node) {
         return None;
     }
-    let near = lab.walk(node, step);
-    queried_value_at(lab, &near, node)
+    let near = lab.walk_node_from_step(node, step);
+    queried_value_at_walk(lab, &near, node)
 }
 
 /// The value that the step selects to which a node is walked back, as [`queried_value`] has it; the walk stays where it is. Takes
 /// the same time whatever the history is.
-pub fn queried_value_at(lab: &Lab, walk: &NodeWalk<'_>, node: NodeId) -> Option<Value>
+pub fn queried_value_at_walk(lab: &Lab, walk: &NodeWalk<'_>, node: NodeId) -> Option<PartValue>
     requires { walk.now ≡ node_at_step lab.now node walk.now.step }
     ensures value { result ≡ queried_value lab.now node walk.now.step }
-    ensures part { IfSome result (λ value. IsNodePart value.part) }
+    ensures part { IfSome result (λ value. IsNodePartInRange value.part) }
 {
     let step = walk.step();
     if step == 0 {

@@ -1,47 +1,47 @@
 //! The steps at which a value decided where a node continued.
 
 ghost use Rattle.std.specs.Prelude.{◌≡◌, ◌≤◌, ◌+◌, ◌^◌, ◌<◌, true, Some, IfSome, option_map};
-ghost use Rattle.ga_node.specs.Record.{record_of};
+ghost use Rattle.ga_node.specs.Record.{record_of_node};
 ghost use Rattle.ga_event.specs.Told.{count_steps};
 ghost use Rattle.ga_lab.specs.Machine.{node_at_step};
-ghost use Rattle.ga_event.specs.Flow.{IsNodePart, part_value};
+ghost use Rattle.ga_event.specs.Flow.{IsNodePartInRange, node_part_value};
 ghost use Rattle.ga_provenance.specs.Origins.{origin_of_value};
-ghost use Rattle.ga_provenance.specs.Deciding.{tested_part, port_code_source_at, is_incoming_code_at, has_port_code, tested_opcode_part, tested_kind_part, step_decision, decision_at};
-ghost use Rattle.ga_provenance.specs.inner.{IsTested, IsOwn, IsTrailTo};
+ghost use Rattle.ga_provenance.specs.Deciding.{part_tested_by_opcode, port_code_source_at, brings_port_code_at, has_port_code, tested_opcode_part, part_tested_by_event, step_decision, branch_decision_at};
+ghost use Rattle.ga_provenance.specs.inner.{IsDecidingPart, IsMadeOwnEventOfKind, IsTrailNotPastStep};
 
 use crate::origin::{flow_by_trail, kept_step, origin_behind, trail_near};
 use crate::trail::CachedWalk;
-use crate::value::Value;
+use crate::value::PartValue;
 use crate::value_sources::source_of_sent_word;
-use ga_event::{Flow, Made, NodePart};
+use ga_event::{MadeEvent, NodePart, ValueFlow};
 use ga_grid::NodeId;
 use ga_lab::{Lab, NodeWalk};
-use ga_node::{Node, OwnEventKind, Place};
+use ga_node::{Node, NodePlace, OwnEventKind};
 use ga_slots::Op;
 use ga_word::Word18;
 use std::marker::Model;
 
 /// A step at which a value decided where its node continued.
 #[derive(Clone, Copy, PartialEq, Eq, Debug)]
-pub struct Decision {
+pub struct BranchDecision {
     /// The number of the step.
     pub step: u32,
     /// The step as made.
-    pub made: Made,
+    pub made: MadeEvent,
     /// The value: R or T before the step, or the instruction word that names where to; of an instruction word that the step took, T of
     /// the writer.
-    pub tested: Value,
+    pub tested: PartValue,
     /// The word of the value that decided the step.
     pub word: Word18,
     /// The step that made the value, or that it was loaded.
-    pub source: Value,
+    pub source: PartValue,
 }
 
 // The part before it that an opcode tests, or that it makes P of.
 #[inline(always)]
-fn tested_part(op: Op) -> Option<NodePart>
-    ensures value { result ≡ tested_part op }
-    ensures part { IfSome result IsTested }
+fn part_tested_by_opcode(op: Op) -> Option<NodePart>
+    ensures value { result ≡ part_tested_by_opcode op }
+    ensures part { IfSome result IsDecidingPart }
 {
     match op {
         Op::Return | Op::Execute | Op::Unext | Op::Next => Some(NodePart::R),
@@ -51,38 +51,45 @@ fn tested_part(op: Op) -> Option<NodePart>
 }
 
 // The word in a part that is tested.
-#[tactic(auto, unfolding(ga_node::specs::Record::record_of))]
+#[tactic(auto, unfolding(ga_node::specs::Record::record_of_node))]
 fn word_in(node: &Node, part: NodePart) -> u32
-    requires { IsTested part }
-    ensures value { result ≡ part_value 0 (record_of node.now) part }
+    requires { IsDecidingPart part }
+    ensures value { result ≡ node_part_value 0 (record_of_node node.now) part }
     ensures fits { result < 2 ^ 18 }
 {
     match part {
-        NodePart::Data(_) => node.d(0),
-        NodePart::Return(_) => node.r(0),
-        _ => node.get(Place::I),
+        NodePart::Data(_) => node.word_of_data_stack(0),
+        NodePart::Return(_) => node.word_of_return_stack(0),
+        _ => node.get(NodePlace::I),
     }
 }
 
 // The T from which an instruction word came over a port by the step at a place.
-fn code_by_trail(lab: &Lab, trail: &mut CachedWalk<'_>, node: NodeId, place: u32) -> Option<Value>
-    requires trail { IsTrailTo lab.now node trail.old place }
+fn code_by_trail(
+    lab: &Lab,
+    trail: &mut CachedWalk<'_>,
+    node: NodeId,
+    place: u32,
+) -> Option<PartValue>
+    requires trail { IsTrailNotPastStep lab.now node trail.old place }
     ensures value { result ≡ port_code_source_at lab.now node.number place }
-    ensures part { IfSome result (λ value. IsNodePart value.part) }
+    ensures part { IfSome result (λ value. IsNodePartInRange value.part) }
     ensures trail { trail.new ≡ node_at_step lab.now node trail.new.step }
     ensures order { place ≤ trail.new.step }
 {
     match flow_by_trail(lab, trail, node, place, NodePart::I) {
-        Flow::Same(NodePart::Outside) => source_of_sent_word(lab.made_event_of_step(node, place)),
-        Flow::Same(_) => None,
-        Flow::From(_) => None,
+        ValueFlow::CopiedFromPart(NodePart::OutsideWord) => source_of_sent_word(
+            lab.made_event_of_step(node, place),
+        ),
+        ValueFlow::CopiedFromPart(_) => None,
+        ValueFlow::ComputedFromParts(_) => None,
     }
 }
 
 // Whether the step at a place brought an instruction word over a port: false if it brought another; none if it left the word
 // that was there.
 #[inline(always)]
-fn is_incoming_code<'l>(
+fn brings_port_code<'l>(
     lab: &'l Lab,
     trail: &CachedWalk<'l>,
     node: NodeId,
@@ -90,17 +97,17 @@ fn is_incoming_code<'l>(
 ) -> Option<bool>
     requires trail { trail.now ≡ node_at_step lab.now node trail.now.step }
     requires within { place ≤ count_steps node.number lab.now.kept }
-    ensures { result ≡ is_incoming_code_at lab.now node.number place }
+    ensures { result ≡ brings_port_code_at lab.now node.number place }
 {
     match lab.made_event_of_step(node, place) {
         Some(made) => match made {
-            Made::Own { kind, .. } => match kind {
+            MadeEvent::Own { kind, .. } => match kind {
                 OwnEventKind::Fetch => Some(false),
                 OwnEventKind::Run(_) => None,
                 OwnEventKind::Wait => None,
                 OwnEventKind::Stop(_) => None,
             },
-            Made::Pass { .. } => taken(lab, trail, node, place),
+            MadeEvent::Pass { .. } => taken(lab, trail, node, place),
         },
         None => None,
     }
@@ -128,7 +135,7 @@ fn has_port_code<'l>(lab: &'l Lab, trail: &CachedWalk<'l>, node: NodeId, place: 
     let mut step = place;
     'going: while step > 0 {
         step -= 1;
-        if let Some(came) = is_incoming_code(lab, trail, node, step) {
+        if let Some(came) = brings_port_code(lab, trail, node, step) {
             return came;
         }
     }
@@ -147,7 +154,7 @@ fn tested_opcode_part<'l>(
     requires trail { trail.now ≡ node_at_step lab.now node trail.now.step }
     requires within { place ≤ count_steps node.number lab.now.kept }
     ensures value { result ≡ tested_opcode_part lab.now node place op }
-    ensures part { IfSome result IsTested }
+    ensures part { IfSome result IsDecidingPart }
 {
     match op {
         Op::Jump | Op::Call => {
@@ -157,13 +164,13 @@ fn tested_opcode_part<'l>(
                 None
             }
         }
-        _ => tested_part(op),
+        _ => part_tested_by_opcode(op),
     }
 }
 
 // The part by which an own event was decided, which the step at a place was.
 #[inline(always)]
-fn tested_kind_part<'l>(
+fn part_tested_by_event<'l>(
     lab: &'l Lab,
     trail: &CachedWalk<'l>,
     node: NodeId,
@@ -172,8 +179,8 @@ fn tested_kind_part<'l>(
 ) -> Option<NodePart>
     requires trail { trail.now ≡ node_at_step lab.now node trail.now.step }
     requires within { place ≤ count_steps node.number lab.now.kept }
-    ensures value { result ≡ tested_kind_part lab.now node place kind }
-    ensures part { IfSome result IsTested }
+    ensures value { result ≡ part_tested_by_event lab.now node place kind }
+    ensures part { IfSome result IsDecidingPart }
 {
     match kind {
         OwnEventKind::Run(code) => tested_opcode_part(
@@ -190,8 +197,8 @@ fn tested_kind_part<'l>(
 }
 
 // The step that made a value, found by a trail of a node, which is not walked on.
-fn source_of<'l>(lab: &'l Lab, trail: &CachedWalk<'l>, node: NodeId, value: Value) -> Value
-    requires part { IsNodePart value.part }
+fn source_of<'l>(lab: &'l Lab, trail: &CachedWalk<'l>, node: NodeId, value: PartValue) -> PartValue
+    requires part { IsNodePartInRange value.part }
     requires trail { trail.now ≡ node_at_step lab.now node trail.now.step }
     ensures { result ≡ origin_of_value lab.now value }
 {
@@ -208,16 +215,16 @@ fn own_decision<'l>(
     trail: &mut CachedWalk<'l>,
     node: NodeId,
     place: u32,
-    made: Made,
+    made: MadeEvent,
     kind: OwnEventKind,
     part: NodePart,
-) -> Decision
-    requires trail { IsTrailTo lab.now node trail.old place }
+) -> BranchDecision
+    requires trail { IsTrailNotPastStep lab.now node trail.old place }
     requires within { place + 1 ≤ count_steps node.number lab.now.kept }
     requires fits { place + 1 < 2 ^ 32 }
-    requires told { IsOwn kind made }
-    requires part { IsTested part }
-    requires tested { tested_kind_part lab.now node place kind ≡ Some part }
+    requires told { IsMadeOwnEventOfKind kind made }
+    requires part { IsDecidingPart part }
+    requires tested { part_tested_by_event lab.now node place kind ≡ Some part }
     ensures value { Some result ≡ step_decision lab.now node place made }
     ensures trail { trail.new ≡ node_at_step lab.now node trail.new.step }
     ensures order { place ≤ trail.new.step }
@@ -225,8 +232,8 @@ fn own_decision<'l>(
     trail.walk_back_to(place);
     let word = Word18::from_low_bits(word_in(trail.walk().node(), part));
     let step = place;
-    let tested = Value { node, step, part };
-    Decision {
+    let tested = PartValue { node, step, part };
+    BranchDecision {
         step: place + 1,
         made,
         tested,
@@ -236,29 +243,29 @@ fn own_decision<'l>(
 }
 
 // The step at a place, where a value decided it.
-fn decision_at<'l>(
+fn branch_decision_at<'l>(
     lab: &'l Lab,
     trail: &mut CachedWalk<'l>,
     node: NodeId,
     place: u32,
-) -> Option<Decision>
-    requires trail { IsTrailTo lab.now node trail.old place }
+) -> Option<BranchDecision>
+    requires trail { IsTrailNotPastStep lab.now node trail.old place }
     requires within { place + 1 ≤ count_steps node.number lab.now.kept }
     requires fits { place + 1 < 2 ^ 32 }
-    ensures value { result ≡ decision_at lab.now node place }
+    ensures value { result ≡ branch_decision_at lab.now node place }
     ensures trail { trail.new ≡ node_at_step lab.now node trail.new.step }
     ensures order { place ≤ trail.new.step }
 {
     match lab.made_event_of_step(node, place) {
         Some(made) => match made {
-            Made::Own { kind, .. } => {
-                let part = tested_kind_part(lab, trail, node, place, kind)?;
+            MadeEvent::Own { kind, .. } => {
+                let part = part_tested_by_event(lab, trail, node, place, kind)?;
                 Some(own_decision(lab, trail, node, place, made, kind, part))
             }
             // An instruction word that came over a port.
-            Made::Pass { word, .. } => {
+            MadeEvent::Pass { word, .. } => {
                 let tested = code_by_trail(lab, trail, node, place)?;
-                Some(Decision {
+                Some(BranchDecision {
                     step: place + 1,
                     made,
                     tested,
@@ -275,35 +282,35 @@ fn decision_at<'l>(
 /// `next`; those that take P from R, `;` and `ex`; those that took an instruction word over a port; and a `jump` or `call` in
 /// such a word. A contract sees the machine, the node, and how many steps are still to be searched.
 #[derive(Drop)]
-pub struct Decisions<'l> {
+pub struct BranchDecisions<'l> {
     lab: &'l Lab,
     node: NodeId,
     trail: CachedWalk<'l>,
     step: u32,
 }
 
-impl<'l> Model for Decisions<'l> {
+impl<'l> Model for BranchDecisions<'l> {
     ghost use Rattle.ga_lab.specs.Machine.{NodeAtStep, node_at_step};
-    ghost use Rattle.ga_provenance.specs.inner.{IsDeciding};
+    ghost use Rattle.ga_provenance.specs.inner.{IsDecisionSearchState};
 
     ghost Value = { NodeAtStep };
 
     ghost view = { λ d. node_at_step d.lab.now d.node d.step };
 
-    ghost invariant = { λ d. IsDeciding d.lab.now d.node d.trail d.step };
+    ghost invariant = { λ d. IsDecisionSearchState d.lab.now d.node d.trail d.step };
 }
 
-impl<'l> Decisions<'l> {
+impl<'l> BranchDecisions<'l> {
     ghost use Rattle.std.specs.Prelude.{◌≡◌, ◌<◌, ◌≤◌, ◌+◌, ◌-◌, IfSome};
     ghost use Rattle.ga_lab.specs.Machine.{node_at_step};
-    ghost use Rattle.ga_provenance.specs.Deciding.{decision_at, newest_decision};
+    ghost use Rattle.ga_provenance.specs.Deciding.{branch_decision_at, newest_decision};
 
     /// All before the step to which a node is walked back.
     pub fn before(lab: &'l Lab, near: &NodeWalk<'l>, node: NodeId) -> Self
         requires { near.now ≡ node_at_step lab.now node near.now.step }
         ensures { result ≡ node_at_step lab.now node (near.now.step - 1) }
     {
-        Decisions {
+        BranchDecisions {
             lab,
             node,
             trail: CachedWalk::new(lab, node, near.copy()),
@@ -314,7 +321,7 @@ impl<'l> Decisions<'l> {
     /// Searches back for the newest step that a value decided, and returns it; none if there is none. Takes no memory, and time
     /// linear in the number of steps that it passes, and in the number of those between the step and the one that made the
     /// value. The node is walked back to the step if that was an own event, and no further.
-    pub fn next(&mut self) -> Option<Decision>
+    pub fn next(&mut self) -> Option<BranchDecision>
         ensures value { result ≡ newest_decision self.old.machine self.old.node self.old.step }
         ensures step { IfSome result (λ decision. self.new.step + 1 ≡ decision.step) }
         ensures same { self.new ≡ node_at_step self.old.machine self.old.node self.new.step }
@@ -335,14 +342,14 @@ impl<'l> Decisions<'l> {
     }
 
     // Searches one step further back, and returns it if a value decided it.
-    fn back(&mut self) -> Option<Decision>
+    fn back(&mut self) -> Option<BranchDecision>
         requires { 0 < self.old.step }
-        ensures value { result ≡ decision_at self.old.machine self.old.node self.new.step }
+        ensures value { result ≡ branch_decision_at self.old.machine self.old.node self.new.step }
         ensures step { self.new.step + 1 ≡ self.old.step }
         ensures same { self.new ≡ node_at_step self.old.machine self.old.node self.new.step }
     {
         let place = self.step - 1;
         self.step = place;
-        decision_at(self.lab, &mut self.trail, self.node, place)
+        branch_decision_at(self.lab, &mut self.trail, self.node, place)
     }
 }

@@ -4,15 +4,15 @@
 ghost use Rattle.std.specs.Prelude.{◌≡◌, ◌<◌, ◌≤◌, ◌+◌, ◌^◌, ◌&&◌};
 ghost use Rattle.std.specs.List.{slice_get};
 ghost use Rattle.ga_event.specs.Told.{count_steps};
-ghost use Rattle.ga_lab.specs.Machine.{history_of, node_at_step};
+ghost use Rattle.ga_lab.specs.Machine.{history_of_node, node_at_step};
 ghost use Rattle.ga_provenance.specs.Origins.{node_after_steps};
-ghost use Rattle.ga_provenance.specs.inner.{place_of, word_of, writes, is_unchanged_by, IsWhole, AreHeld};
-ghost use Rattle.ga_node.specs.Record.{record_of};
+ghost use Rattle.ga_provenance.specs.inner.{tracked_place_in_node, tracked_word_in_node, may_opcode_write_tracked_place, is_unchanged_by_step, HasMachineAllNodes, AreRegistersAfterSteps};
+ghost use Rattle.ga_node.specs.Record.{record_of_node};
 
-use ga_event::Made;
+use ga_event::MadeEvent;
 use ga_grid::NodeId;
 use ga_lab::{Lab, NodeWalk};
-use ga_node::{Node, OwnEventKind, Place};
+use ga_node::{Node, NodePlace, OwnEventKind};
 
 /// A register that addresses, or a cell of RAM.
 #[derive(Clone, Copy, PartialEq, Eq, Debug)]
@@ -27,20 +27,20 @@ pub(crate) enum TrackedPlace {
 
 impl TrackedPlace {
     /// The place in a node of a tracked word.
-    fn place(self) -> Place
-        ensures { result ≡ place_of self }
+    fn place(self) -> NodePlace
+        ensures { result ≡ tracked_place_in_node self }
     {
         match self {
-            TrackedPlace::A => Place::A,
-            TrackedPlace::B => Place::B,
-            TrackedPlace::Ram(cell) => Place::Ram(cell),
+            TrackedPlace::A => NodePlace::A,
+            TrackedPlace::B => NodePlace::B,
+            TrackedPlace::Ram(cell) => NodePlace::Ram(cell),
         }
     }
 
     /// Whether the opcode with this code may write the register or the cell: A by `@+`, `!+`, `+*` and `a!`, B by `b!`, a cell by a store.
     #[inline(always)]
     fn is_written_by(self, code: u8) -> bool
-        ensures { result ≡ writes self code }
+        ensures { result ≡ may_opcode_write_tracked_place self code }
     {
         match self {
             TrackedPlace::A => code == 9 || code == 13 || code == 16 || code == 31,
@@ -51,11 +51,11 @@ impl TrackedPlace {
 
     /// Whether a step, as made, left the register or the cell as it was, whatever the node's values were.
     #[inline(always)]
-    pub fn is_unchanged_by(self, told: &Option<Made>) -> bool
-        ensures { result ≡ is_unchanged_by self told.now }
+    pub fn is_unchanged_by_step(self, told: &Option<MadeEvent>) -> bool
+        ensures { result ≡ is_unchanged_by_step self told.now }
     {
         match told {
-            Some(Made::Own { kind, .. }) => match kind {
+            Some(MadeEvent::Own { kind, .. }) => match kind {
                 OwnEventKind::Run(code) => !self.is_written_by(*code),
                 _ => true,
             },
@@ -66,11 +66,11 @@ impl TrackedPlace {
 
 /// Whether a step, as made, left both A and B as they were, whatever the node's values were.
 #[inline(always)]
-pub(crate) fn both_rest(told: &Option<Made>) -> bool
-    ensures { result ≡ (is_unchanged_by TrackedPlace.A told.now && is_unchanged_by TrackedPlace.B told.now) }
+pub(crate) fn both_rest(told: &Option<MadeEvent>) -> bool
+    ensures { result ≡ (is_unchanged_by_step TrackedPlace.A told.now && is_unchanged_by_step TrackedPlace.B told.now) }
 {
     match told {
-        Some(Made::Own { kind, .. }) => match kind {
+        Some(MadeEvent::Own { kind, .. }) => match kind {
             OwnEventKind::Run(code) => !TrackedPlace::A.is_written_by(*code)
                 && !TrackedPlace::B.is_written_by(*code),
             _ => true,
@@ -82,9 +82,9 @@ pub(crate) fn both_rest(told: &Option<Made>) -> bool
 /// The tracked word of a node right before the step at a place, if it is `word` after it, by the step's entry.
 pub(crate) fn word_before(lab: &Lab, node: NodeId, at: u32, kept: TrackedPlace, word: u32) -> u32
     requires within { at + 1 ≤ count_steps node.number lab.now.kept }
-    requires behind { word_of kept (node_after_steps lab.now node.number (at + 1)) ≡ word }
+    requires behind { tracked_word_in_node kept (node_after_steps lab.now node.number (at + 1)) ≡ word }
     requires fits { word < 2 ^ 18 }
-    ensures value { word_of kept (node_after_steps lab.now node.number at) ≡ result }
+    ensures value { tracked_word_in_node kept (node_after_steps lab.now node.number at) ≡ result }
     ensures fits { result < 2 ^ 18 }
 {
     match lab.overwritten_value(node, at, kept.place()) {
@@ -101,19 +101,19 @@ pub(crate) fn value_after(
     lab: &Lab,
     node: NodeId,
     at: u32,
-    told: &Option<Made>,
+    told: &Option<MadeEvent>,
     kept: TrackedPlace,
     word: u32,
 ) -> u32
-    requires told { told.now ≡ slice_get (history_of lab.now node.number) at }
+    requires told { told.now ≡ slice_get (history_of_node lab.now node.number) at }
     requires within { at + 1 ≤ count_steps node.number lab.now.kept }
-    requires whole { IsWhole lab.now }
-    requires behind { word_of kept (node_after_steps lab.now node.number (at + 1)) ≡ word }
+    requires whole { HasMachineAllNodes lab.now }
+    requires behind { tracked_word_in_node kept (node_after_steps lab.now node.number (at + 1)) ≡ word }
     requires fits { word < 2 ^ 18 }
-    ensures value { word_of kept (node_after_steps lab.now node.number at) ≡ result }
+    ensures value { tracked_word_in_node kept (node_after_steps lab.now node.number at) ≡ result }
     ensures fits { result < 2 ^ 18 }
 {
-    if kept.is_unchanged_by(told) {
+    if kept.is_unchanged_by_step(told) {
         word
     } else {
         word_before(lab, node, at, kept, word)
@@ -127,26 +127,26 @@ pub(crate) struct Registers {
     pub b: u32,
 }
 
-#[tactic(auto, unfolding(ga_node::specs::Record::record_of))]
+#[tactic(auto, unfolding(ga_node::specs::Record::record_of_node))]
 fn a_of(node: &Node) -> u32
-    ensures value { result ≡ (record_of node.now).a }
+    ensures value { result ≡ (record_of_node node.now).a }
     ensures fits { result < 2 ^ 18 }
 {
-    node.get(Place::A)
+    node.get(NodePlace::A)
 }
 
-#[tactic(auto, unfolding(ga_node::specs::Record::record_of))]
+#[tactic(auto, unfolding(ga_node::specs::Record::record_of_node))]
 fn b_of(node: &Node) -> u32
-    ensures value { result ≡ (record_of node.now).b }
+    ensures value { result ≡ (record_of_node node.now).b }
     ensures fits { result < 2 ^ 18 }
 {
-    node.get(Place::B)
+    node.get(NodePlace::B)
 }
 
 /// A and B of a node where it is walked back to.
 pub(crate) fn registers_in(lab: &Lab, node: NodeId, walk: &NodeWalk<'_>) -> Registers
     requires { walk.now ≡ node_at_step lab.now node walk.now.step }
-    ensures { AreHeld lab.now node.number walk.now.step result }
+    ensures { AreRegistersAfterSteps lab.now node.number walk.now.step result }
 {
     // These are called only for their contracts: that the chip has all its nodes, and that the node has this number of steps.
     lab.chip().node(node);
@@ -161,8 +161,8 @@ pub(crate) fn registers_in(lab: &Lab, node: NodeId, walk: &NodeWalk<'_>) -> Regi
 /// A and B of a node right before the step at a place, by the step's entry.
 #[inline(never)]
 fn registers_kept(lab: &Lab, node: NodeId, at: u32, behind: Registers) -> Registers
-    requires { AreHeld lab.now node.number (at + 1) behind }
-    ensures { AreHeld lab.now node.number at result }
+    requires { AreRegistersAfterSteps lab.now node.number (at + 1) behind }
+    ensures { AreRegistersAfterSteps lab.now node.number at result }
 {
     Registers {
         a: word_before(lab, node, at, TrackedPlace::A, behind.a),
@@ -176,12 +176,12 @@ pub(crate) fn registers_before(
     lab: &Lab,
     node: NodeId,
     at: u32,
-    told: &Option<Made>,
+    told: &Option<MadeEvent>,
     behind: Registers,
 ) -> Registers
-    requires told { told.now ≡ slice_get (history_of lab.now node.number) at }
-    requires held { AreHeld lab.now node.number (at + 1) behind }
-    ensures { AreHeld lab.now node.number at result }
+    requires told { told.now ≡ slice_get (history_of_node lab.now node.number) at }
+    requires held { AreRegistersAfterSteps lab.now node.number (at + 1) behind }
+    ensures { AreRegistersAfterSteps lab.now node.number at result }
 {
     if both_rest(told) {
         behind
@@ -199,8 +199,8 @@ pub(crate) fn registers_at(
     to: u32,
 ) -> Registers
     requires order { to ≤ from }
-    requires held { AreHeld lab.now node.number from behind }
-    ensures { AreHeld lab.now node.number to result }
+    requires held { AreRegistersAfterSteps lab.now node.number from behind }
+    ensures { AreRegistersAfterSteps lab.now node.number to result }
 {
     let mut registers = behind;
     let mut step = from;

@@ -1,20 +1,23 @@
 //! The source of a value that a step leaves, if the entries of the steps determine it.
 
 ghost use Rattle.std.specs.Prelude.{◌≡◌, ◌<◌, ◌≤◌, IfSome};
-ghost use Rattle.ga_ports.specs.Address.{IsValidTarget};
-ghost use Rattle.ga_node.specs.Table.{next_action_of};
+ghost use Rattle.ga_ports.specs.Address.{IsTargetInRange};
+ghost use Rattle.ga_node.specs.Table.{next_action_of_node};
 ghost use Rattle.ga_node.specs.State.{wait_of_code};
 ghost use Rattle.ga_node.specs.declared.due.NextAction.TheVariants as due;
 ghost use Rattle.ga_lab.specs.Machine.{node_at_step};
-ghost use Rattle.ga_event.specs.Flow.{IsNodePart, choice, choice_target, flow_of_own_event, take_flow, flow_of, HasValidSources};
+ghost use Rattle.ga_event.specs.Flow.{IsNodePartInRange, deciding_test_or_target, deciding_target, flow_of_own_event, flow_after_take, flow_of_stored_flow, ComputesNothingFromOutsideWord};
 ghost use Rattle.ga_provenance.specs.Origins.{node_after_steps, value_flow_at_step};
-ghost use Rattle.ga_provenance.specs.inner.{IsDueBy, IsTrailTo};
+ghost use Rattle.ga_provenance.specs.inner.{IsNextActionOfKind, IsTrailNotPastStep};
 
 use crate::trail::CachedWalk;
-use ga_event::{ActionChoice, Flow, Made, NodePart, flow_by_choice, send_flow, take_flow};
+use ga_event::{
+    DecidingTestOrTarget, MadeEvent, NodePart, ValueFlow, flow_after_send, flow_after_take,
+    flow_by_test_or_target,
+};
 use ga_grid::NodeId;
 use ga_lab::Lab;
-use ga_node::{NextAction, OwnEventKind, Place, Wait};
+use ga_node::{NextAction, NodePlace, OwnEventKind, Wait};
 use ga_ports::{PortSet, classify_address};
 use ga_slots::Op;
 
@@ -29,7 +32,7 @@ pub(crate) fn p_at(lab: &Lab, node: NodeId, place: u32) -> Option<u32>
     let steps = lab.steps(node);
     let mut at = place;
     'looking: while at < steps && at - place < AHEAD {
-        if let Some(p) = lab.overwritten_value(node, at, Place::P) {
+        if let Some(p) = lab.overwritten_value(node, at, NodePlace::P) {
             return Some(p);
         }
         at += 1;
@@ -44,27 +47,27 @@ fn choice_of(
     node: NodeId,
     place: u32,
     op: Op,
-) -> Option<ActionChoice>
-    requires trail { IsTrailTo lab.now node trail.old place }
-    ensures value { IfSome result (λ known. known ≡ choice (due.Run op) (node_after_steps lab.now node.number place)) }
-    ensures target { IfSome result (λ known. IsValidTarget (choice_target known)) }
+) -> Option<DecidingTestOrTarget>
+    requires trail { IsTrailNotPastStep lab.now node trail.old place }
+    ensures value { IfSome result (λ known. known ≡ deciding_test_or_target (due.Run op) (node_after_steps lab.now node.number place)) }
+    ensures target { IfSome result (λ known. IsTargetInRange (deciding_target known)) }
     ensures same { trail.new ≡ trail.old }
 {
     match op {
         Op::Unext | Op::Next | Op::If | Op::MinusIf => None,
-        Op::FetchP | Op::StoreP => Some(ActionChoice::At(classify_address(p_at(
+        Op::FetchP | Op::StoreP => Some(DecidingTestOrTarget::TargetChoice(classify_address(p_at(
             lab, node, place,
         )?))),
-        Op::Plus => Some(ActionChoice::Test(p_at(lab, node, place)? / 512 % 2 == 1)),
+        Op::Plus => Some(DecidingTestOrTarget::TestResult(p_at(lab, node, place)? / 512 % 2 == 1)),
         Op::FetchPlus | Op::Fetch | Op::StorePlus | Op::Store => {
             let registers = trail.registers(lab, node, place);
-            Some(ActionChoice::At(classify_address(registers.a)))
+            Some(DecidingTestOrTarget::TargetChoice(classify_address(registers.a)))
         }
         Op::FetchB | Op::StoreB => {
             let registers = trail.registers(lab, node, place);
-            Some(ActionChoice::At(classify_address(registers.b)))
+            Some(DecidingTestOrTarget::TargetChoice(classify_address(registers.b)))
         }
-        _ => Some(ActionChoice::Plain),
+        _ => Some(DecidingTestOrTarget::Plain),
     }
 }
 
@@ -75,14 +78,16 @@ fn choice_at(
     node: NodeId,
     place: u32,
     due: NextAction,
-) -> Option<ActionChoice>
-    requires trail { IsTrailTo lab.now node trail.old place }
-    ensures value { IfSome result (λ known. known ≡ choice due (node_after_steps lab.now node.number place)) }
-    ensures target { IfSome result (λ known. IsValidTarget (choice_target known)) }
+) -> Option<DecidingTestOrTarget>
+    requires trail { IsTrailNotPastStep lab.now node trail.old place }
+    ensures value { IfSome result (λ known. known ≡ deciding_test_or_target due (node_after_steps lab.now node.number place)) }
+    ensures target { IfSome result (λ known. IsTargetInRange (deciding_target known)) }
     ensures same { trail.new ≡ trail.old }
 {
     match due {
-        NextAction::Fetch => Some(ActionChoice::At(classify_address(p_at(lab, node, place)?))),
+        NextAction::Fetch => Some(DecidingTestOrTarget::TargetChoice(classify_address(p_at(
+            lab, node, place,
+        )?))),
         NextAction::Run(op) => choice_of(lab, trail, node, place, op),
     }
 }
@@ -96,23 +101,23 @@ fn own_flow_at(
     place: u32,
     due: NextAction,
     part: NodePart,
-) -> Option<Flow>
-    requires part { IsNodePart part }
-    requires trail { IsTrailTo lab.now node trail.old place }
-    requires due { next_action_of (node_after_steps lab.now node.number place) ≡ due }
-    ensures value { IfSome result (λ flow. flow_of flow ≡ flow_of_own_event (node_after_steps lab.now node.number place) part) }
-    ensures sources { IfSome result (λ flow. HasValidSources (flow_of flow)) }
+) -> Option<ValueFlow>
+    requires part { IsNodePartInRange part }
+    requires trail { IsTrailNotPastStep lab.now node trail.old place }
+    requires due { next_action_of_node (node_after_steps lab.now node.number place) ≡ due }
+    ensures value { IfSome result (λ flow. flow_of_stored_flow flow ≡ flow_of_own_event (node_after_steps lab.now node.number place) part) }
+    ensures sources { IfSome result (λ flow. ComputesNothingFromOutsideWord (flow_of_stored_flow flow)) }
     ensures same { trail.new ≡ trail.old }
 {
     match choice_at(lab, trail, node, place, due) {
-        Some(choice) => Some(flow_by_choice(due, choice, part)),
+        Some(choice) => Some(flow_by_test_or_target(due, choice, part)),
         None => None,
     }
 }
 
 // What came next in a node whose event was of this kind.
 fn due_by(kind: OwnEventKind) -> Option<NextAction>
-    ensures { IfSome result (λ due. IsDueBy kind due) }
+    ensures { IfSome result (λ due. IsNextActionOfKind kind due) }
 {
     match kind {
         OwnEventKind::Fetch => Some(NextAction::Fetch),
@@ -132,20 +137,20 @@ fn reading(code: u32) -> Option<Wait>
     ensures { IfSome result (λ wait. wait ≡ wait_of_code code) }
 {
     match code {
-        17..32 => Some(Wait::Fetch(PortSet::of((code - 16) as u8))),
-        33..48 => Some(Wait::Read(PortSet::of((code - 32) as u8))),
+        17..32 => Some(Wait::Fetch(PortSet::from_bits((code - 16) as u8))),
+        33..48 => Some(Wait::Read(PortSet::from_bits((code - 32) as u8))),
         _ => None,
     }
 }
 
 // What the reader's half of the pass at a place leaves in a part.
-fn taken_flow(lab: &Lab, node: NodeId, place: u32, part: NodePart) -> Option<Flow>
-    requires { IsNodePart part }
-    ensures value { IfSome result (λ flow. flow_of flow ≡ take_flow (node_after_steps lab.now node.number place).wait part) }
-    ensures sources { IfSome result (λ flow. HasValidSources (flow_of flow)) }
+fn taken_flow(lab: &Lab, node: NodeId, place: u32, part: NodePart) -> Option<ValueFlow>
+    requires { IsNodePartInRange part }
+    ensures value { IfSome result (λ flow. flow_of_stored_flow flow ≡ flow_after_take (node_after_steps lab.now node.number place).wait part) }
+    ensures sources { IfSome result (λ flow. ComputesNothingFromOutsideWord (flow_of_stored_flow flow)) }
 {
-    let wait = reading(lab.overwritten_value(node, place, Place::Wait)?)?;
-    Some(take_flow(wait, part))
+    let wait = reading(lab.overwritten_value(node, place, NodePlace::Wait)?)?;
+    Some(flow_after_take(wait, part))
 }
 
 /// The source of the value that the step at a place leaves in a part, if the entries determine it.
@@ -155,20 +160,20 @@ pub(crate) fn known_flow(
     node: NodeId,
     place: u32,
     part: NodePart,
-) -> Option<Flow>
-    requires part { IsNodePart part }
-    requires trail { IsTrailTo lab.now node trail.old place }
-    ensures value { IfSome result (λ flow. flow_of flow ≡ value_flow_at_step lab.now node.number place part) }
-    ensures sources { IfSome result (λ flow. HasValidSources (flow_of flow)) }
+) -> Option<ValueFlow>
+    requires part { IsNodePartInRange part }
+    requires trail { IsTrailNotPastStep lab.now node trail.old place }
+    ensures value { IfSome result (λ flow. flow_of_stored_flow flow ≡ value_flow_at_step lab.now node.number place part) }
+    ensures sources { IfSome result (λ flow. ComputesNothingFromOutsideWord (flow_of_stored_flow flow)) }
     ensures same { trail.new ≡ trail.old }
 {
     match lab.made_event_of_step(node, place)? {
-        Made::Own { kind, .. } => own_flow_at(lab, trail, node, place, due_by(kind)?, part),
-        Made::Pass { reader, .. } => {
+        MadeEvent::Own { kind, .. } => own_flow_at(lab, trail, node, place, due_by(kind)?, part),
+        MadeEvent::Pass { reader, .. } => {
             if node.number == reader.number {
                 taken_flow(lab, node, place, part)
             } else {
-                Some(send_flow(part))
+                Some(flow_after_send(part))
             }
         }
     }

@@ -15,9 +15,9 @@ mod value;
 mod value_sources;
 mod writes;
 
-pub use asked::{queried_value, queried_value_at};
-pub use deciding::{Decision, Decisions};
+pub use asked::{queried_value, queried_value_at_walk};
+pub use deciding::{BranchDecision, BranchDecisions};
 pub use lines::{ProvenanceLine, ProvenanceLines, find_provenance_lines_at};
 pub use origin::{fetched_cell_at, origin_of_value};
-pub use value::Value;
+pub use value::PartValue;
 pub use writes::{CellWrite, CellWrites};

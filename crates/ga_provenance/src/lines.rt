@@ -1,15 +1,15 @@
 //! The provenance of a value as lines, the nearest first, each of a value or of a run of values that differ only in their steps.
 
 ghost use Rattle.std.specs.Prelude.{◌≡◌, ◌≤◌, ◌<◌, ◌+◌, ◌++◌, false, IfOk, IfSome, OnOk, All, length, map, option_map};
-ghost use Rattle.ga_event.specs.Flow.{IsNodePart};
+ghost use Rattle.ga_event.specs.Flow.{IsNodePartInRange};
 ghost use Rattle.ga_lab.specs.Machine.{node_at_step};
 ghost use Rattle.ga_provenance.specs.Origins.{origin_of_value};
 ghost use Rattle.ga_provenance.specs.Sources.{value_sources};
 ghost use Rattle.ga_provenance.specs.Lines.{is_value_in_run, is_value_listed, next_value_in_run, oldest_value_of_run, provenance_line_of_use, values_used_by_line, AreProvenanceLinesOf, IsLineOfMovedValue};
-ghost use Rattle.ga_provenance.specs.inner.{IsOfPart, IsKept, IsTraced, traced_value, follows_in_run, following};
+ghost use Rattle.ga_provenance.specs.inner.{HasValuePartInRange, IsValueInHistory, IsValueTraced, part_value_of_traced_value, follows_oldest_in_run, following_value_in_run};
 
 use crate::source_search::{SourceSearch, TracedValue};
-use crate::value::Value;
+use crate::value::PartValue;
 use arrayvec::ArrayVec;
 use ga_grid::NodeId;
 use ga_lab::{Lab, NodeWalk};
@@ -22,9 +22,9 @@ pub struct ProvenanceLine {
     /// The number of the line that used the value, from 1 on; 0 for the queried value.
     pub user: u32,
     /// The value, right after the step that made it; of a run the newest.
-    pub value: Value,
+    pub value: PartValue,
     /// The same value where it was used.
-    pub used: Value,
+    pub used: PartValue,
     /// The number of values of the run.
     pub count: u32,
     /// The number of steps from each of them to the next; 0 for a single one.
@@ -44,17 +44,17 @@ pub struct ProvenanceLines {
 #[derive(Clone, Copy, PartialEq, Eq, Debug)]
 pub(crate) struct UsedValue {
     pub user: u32,
-    pub used: Value,
+    pub used: PartValue,
 }
 
 impl ProvenanceLine {
     /// Whether a value is in the run.
-    pub fn is_value_in_run(self, value: Value) -> bool
+    pub fn is_value_in_run(self, value: PartValue) -> bool
         ensures { result ≡ is_value_in_run self value }
     {
         let newest = self.value;
         if newest.node.number != value.node.number
-            || !newest.part.is_equal_to(value.part)
+            || !newest.part.is_same_node_part(value.part)
             || value.step > newest.step
         {
             return false;
@@ -69,21 +69,21 @@ impl ProvenanceLine {
 }
 
 // Whether a value is in the run of a line.
-fn is_value_listed(lines: &[ProvenanceLine], value: Value) -> bool
+fn is_value_listed(lines: &[ProvenanceLine], value: PartValue) -> bool
     ensures { result ≡ is_value_listed lines.now value }
 {
     lines.iter().any(|line| line.is_value_in_run(value))
 }
 
 // Whether a value follows the oldest one of a run that these lines don't list.
-fn follows_in_run(
+fn follows_oldest_in_run(
     lines: &[ProvenanceLine],
     line: ProvenanceLine,
-    oldest: Value,
-    next: Value,
+    oldest: PartValue,
+    next: PartValue,
 ) -> bool
     requires { next.step ≤ oldest.step }
-    ensures { result ≡ follows_in_run lines.now line oldest next }
+    ensures { result ≡ follows_oldest_in_run lines.now line oldest next }
 {
     (line.count == 1 || oldest.step - next.step == line.period) && !is_value_listed(lines, next)
 }
@@ -95,15 +95,15 @@ fn find_following<'l, 'n>(
     line: ProvenanceLine,
     oldest: &TracedValue,
 ) -> (SourceSearch<'l, 'n>, Option<TracedValue>)
-    requires { IsTraced search.lab.now oldest.now }
+    requires { IsValueTraced search.lab.now oldest.now }
     ensures lab { result.0.lab.now ≡ search.entry.lab.now }
-    ensures next { option_map traced_value result.1 ≡ following lines.now line oldest.now.value (next_value_in_run search.entry.lab.now oldest.now.value) }
-    ensures traced { IfSome result.1 (IsTraced search.entry.lab.now) }
+    ensures next { option_map part_value_of_traced_value result.1 ≡ following_value_in_run lines.now line oldest.now.value (next_value_in_run search.entry.lab.now oldest.now.value) }
+    ensures traced { IfSome result.1 (IsValueTraced search.entry.lab.now) }
 {
     let (found, next) = search.next_value_in_run(oldest);
     match next {
         Some(next) => {
-            if follows_in_run(lines, line, oldest.value, next.value) {
+            if follows_oldest_in_run(lines, line, oldest.value, next.value) {
                 (found, Some(next))
             } else {
                 (found, None)
@@ -119,23 +119,23 @@ fn find_line<'l, 'n>(
     search: SourceSearch<'l, 'n>,
     lines: &[ProvenanceLine],
     usage: UsedValue,
-    value: Value,
+    value: PartValue,
 ) -> (
     SourceSearch<'l, 'n>,
     ProvenanceLine,
-    ArrayVec<Value, 3>,
-    ArrayVec<Value, 3>,
+    ArrayVec<PartValue, 3>,
+    ArrayVec<PartValue, 3>,
 )
     requires value { value ≡ origin_of_value search.lab.now usage.used }
-    requires kept { IsKept search.lab.now value }
+    requires kept { IsValueInHistory search.lab.now value }
     ensures lab { result.0.lab.now ≡ search.entry.lab.now }
     ensures line { result.1 ≡ provenance_line_of_use search.entry.lab.now lines.now usage }
     ensures used { result.2.items ≡ value_sources search.entry.lab.now (oldest_value_of_run (provenance_line_of_use search.entry.lab.now lines.now usage)) }
-    ensures parts { All IsOfPart result.2.items }
+    ensures parts { All HasValuePartInRange result.2.items }
     ensures origins { result.3.items ≡ map (origin_of_value search.entry.lab.now) result.2.items }
-    ensures kept { All (IsKept search.entry.lab.now) result.3.items }
+    ensures kept { All (IsValueInHistory search.entry.lab.now) result.3.items }
 {
-    let (mut search, mut oldest) = search.trace(value);
+    let (mut search, mut oldest) = search.trace_value_sources(value);
     let mut line = ProvenanceLine {
         user: usage.user,
         value,
@@ -164,7 +164,7 @@ fn find_line<'l, 'n>(
 fn push_used(
     uses: &mut Vec<UsedValue>,
     user: u32,
-    values: ArrayVec<Value, 3>,
+    values: ArrayVec<PartValue, 3>,
 ) -> Result<(), AllocError>
     ensures ok { OnOk result (uses.new.items ≡ uses.old.items ++ values_used_by_line user values.items) }
     ensures few { OnOk result (length uses.new.items ≤ length uses.old.items + 3) }
@@ -179,7 +179,10 @@ fn push_used(
 }
 
 // Adds values.
-fn push_origins(origins: &mut Vec<Value>, values: ArrayVec<Value, 3>) -> Result<(), AllocError>
+fn push_origins(
+    origins: &mut Vec<PartValue>,
+    values: ArrayVec<PartValue, 3>,
+) -> Result<(), AllocError>
     ensures { OnOk result (origins.new.items ≡ origins.old.items ++ values.items) }
 {
     'values: for value in values.as_slice() {
@@ -203,10 +206,10 @@ pub fn find_provenance_lines_at<'l>(
     lab: &'l Lab,
     near: &NodeWalk<'l>,
     at: NodeId,
-    value: Value,
+    value: PartValue,
     most: u32,
 ) -> Result<ProvenanceLines, AllocError>
-    requires part { IsNodePart value.part }
+    requires part { IsNodePartInRange value.part }
     requires near { near.now ≡ node_at_step lab.now at near.now.step }
     ensures lines { IfOk result (λ found. AreProvenanceLinesOf lab.now value found.lines.items found.is_whole) }
     ensures most { IfOk result (λ found. length found.lines.items ≤ most) }
@@ -219,7 +222,7 @@ pub fn find_provenance_lines_at<'l>(
         user: 0,
         used: value,
     })?;
-    let mut origins: Vec<Value> = Vec::new(alloc);
+    let mut origins: Vec<PartValue> = Vec::new(alloc);
     let (mut search, origin) = SourceSearch::new(lab, near, at).origin_of_value(value);
     origins.push(origin)?;
     let mut next = 0;

@@ -1,11 +1,11 @@
 //! The part from which a step moved a value, if the step as made determines it, whatever the node's values were.
 
 ghost use Rattle.std.specs.Prelude.{◌≡◌, ◌<◌, IfSome};
-ghost use Rattle.ga_event.specs.Flow.{IsNodePart};
-ghost use Rattle.ga_provenance.specs.inner.{on_data, on_return, pushed, popped_to_data, moved_to_data, popped_to_return, moved_to_return, moved_to_a, unless_stored, by_op, by_fetch, by_pause, stored_at, misses_by, misses, moved_by};
+ghost use Rattle.ga_event.specs.Flow.{IsNodePartInRange};
+ghost use Rattle.ga_provenance.specs.inner.{data_stack_effect_of_opcode, return_effect_of_opcode, pushed_source_part, data_part_before_pop, data_word_source_part, return_part_before_pop, part_moved_to_return_place, source_part_of_a, source_part_unless_stored, source_part_by_opcode, source_part_by_fetch, source_of_part_after_wait_or_stop, store_target, opcode_stores_outside_part, event_stores_outside_part, source_part_by_event};
 
 use crate::kept::Registers;
-use ga_event::{Made, NodePart};
+use ga_event::{MadeEvent, NodePart};
 use ga_node::OwnEventKind;
 use ga_ports::{AddressTarget, classify_address};
 use ga_slots::Op;
@@ -29,8 +29,8 @@ pub(crate) enum StackEffect {
 
 // What an opcode does to the data stack.
 #[inline(always)]
-fn on_data(op: Op) -> StackEffect
-    ensures { result ≡ on_data op }
+fn data_stack_effect_of_opcode(op: Op) -> StackEffect
+    ensures { result ≡ data_stack_effect_of_opcode op }
 {
     match op {
         Op::Return | Op::Execute | Op::Jump | Op::Call => StackEffect::Stays,
@@ -47,8 +47,8 @@ fn on_data(op: Op) -> StackEffect
 
 // What an opcode does to the return stack.
 #[inline(always)]
-fn on_return(op: Op) -> StackEffect
-    ensures { result ≡ on_return op }
+fn return_effect_of_opcode(op: Op) -> StackEffect
+    ensures { result ≡ return_effect_of_opcode op }
 {
     match op {
         Op::Return | Op::Pop => StackEffect::Pops,
@@ -62,8 +62,8 @@ fn on_return(op: Op) -> StackEffect
 // The part whose word an opcode pushes on either stack. What it reads is that of none.
 #[inline(always)]
 fn pushed(op: Op) -> Option<NodePart>
-    ensures value { result ≡ pushed op }
-    ensures part { IfSome result (λ from. IsNodePart from) }
+    ensures value { result ≡ pushed_source_part op }
+    ensures part { IfSome result (λ from. IsNodePartInRange from) }
 {
     match op {
         Op::Dup | Op::Push => Some(NodePart::T),
@@ -77,10 +77,10 @@ fn pushed(op: Op) -> Option<NodePart>
 
 // The place of a word of the data stack before a pop.
 #[inline(always)]
-fn popped_to_data(place: u8) -> NodePart
+fn data_part_before_pop(place: u8) -> NodePart
     requires { place < 10 }
-    ensures value { result ≡ popped_to_data place }
-    ensures part { IsNodePart result }
+    ensures value { result ≡ data_part_before_pop place }
+    ensures part { IsNodePartInRange result }
 {
     if place == 9 {
         NodePart::Data(2)
@@ -91,12 +91,12 @@ fn popped_to_data(place: u8) -> NodePart
 
 // The part whose word an opcode leaves at a place of the data stack.
 #[inline(always)]
-fn moved_to_data(op: Op, place: u8) -> Option<NodePart>
+fn data_word_source_part(op: Op, place: u8) -> Option<NodePart>
     requires { place < 10 }
-    ensures value { result ≡ moved_to_data op place }
-    ensures part { IfSome result (λ from. IsNodePart from) }
+    ensures value { result ≡ data_word_source_part op place }
+    ensures part { IfSome result (λ from. IsNodePartInRange from) }
 {
-    match on_data(op) {
+    match data_stack_effect_of_opcode(op) {
         StackEffect::Stays => Some(NodePart::Data(place)),
         StackEffect::Replaces => {
             if place == 0 {
@@ -112,12 +112,12 @@ fn moved_to_data(op: Op, place: u8) -> Option<NodePart>
                 Some(NodePart::Data(place - 1))
             }
         }
-        StackEffect::Pops => Some(popped_to_data(place)),
+        StackEffect::Pops => Some(data_part_before_pop(place)),
         StackEffect::Combines => {
             if place == 0 {
                 None
             } else {
-                Some(popped_to_data(place))
+                Some(data_part_before_pop(place))
             }
         }
         StackEffect::Unsure => None,
@@ -126,10 +126,10 @@ fn moved_to_data(op: Op, place: u8) -> Option<NodePart>
 
 // The place of a word of the return stack before a pop.
 #[inline(always)]
-fn popped_to_return(place: u8) -> NodePart
+fn return_part_before_pop(place: u8) -> NodePart
     requires { place < 9 }
-    ensures value { result ≡ popped_to_return place }
-    ensures part { IsNodePart result }
+    ensures value { result ≡ return_part_before_pop place }
+    ensures part { IsNodePartInRange result }
 {
     if place == 8 {
         NodePart::Return(1)
@@ -140,12 +140,12 @@ fn popped_to_return(place: u8) -> NodePart
 
 // The part whose word an opcode leaves at a place of the return stack.
 #[inline(always)]
-fn moved_to_return(op: Op, place: u8) -> Option<NodePart>
+fn part_moved_to_return_place(op: Op, place: u8) -> Option<NodePart>
     requires { place < 9 }
-    ensures value { result ≡ moved_to_return op place }
-    ensures part { IfSome result (λ from. IsNodePart from) }
+    ensures value { result ≡ part_moved_to_return_place op place }
+    ensures part { IfSome result (λ from. IsNodePartInRange from) }
 {
-    match on_return(op) {
+    match return_effect_of_opcode(op) {
         StackEffect::Stays => Some(NodePart::Return(place)),
         StackEffect::Replaces => {
             if place == 0 {
@@ -161,7 +161,7 @@ fn moved_to_return(op: Op, place: u8) -> Option<NodePart>
                 Some(NodePart::Return(place - 1))
             }
         }
-        StackEffect::Pops => Some(popped_to_return(place)),
+        StackEffect::Pops => Some(return_part_before_pop(place)),
         StackEffect::Combines => None,
         StackEffect::Unsure => None,
     }
@@ -169,9 +169,9 @@ fn moved_to_return(op: Op, place: u8) -> Option<NodePart>
 
 // The part whose word an opcode leaves in A.
 #[inline(always)]
-fn moved_to_a(op: Op) -> Option<NodePart>
-    ensures value { result ≡ moved_to_a op }
-    ensures part { IfSome result (λ from. IsNodePart from) }
+fn source_part_of_a(op: Op) -> Option<NodePart>
+    ensures value { result ≡ source_part_of_a op }
+    ensures part { IfSome result (λ from. IsNodePartInRange from) }
 {
     match op {
         Op::FetchPlus | Op::StorePlus | Op::MultiplyStep => None,
@@ -182,10 +182,10 @@ fn moved_to_a(op: Op) -> Option<NodePart>
 
 // What a store may write stays under every other opcode.
 #[inline(always)]
-fn unless_stored(op: Op, part: NodePart) -> Option<NodePart>
-    requires { IsNodePart part }
-    ensures value { result ≡ unless_stored op part }
-    ensures part { IfSome result (λ from. IsNodePart from) }
+fn source_part_unless_stored(op: Op, part: NodePart) -> Option<NodePart>
+    requires { IsNodePartInRange part }
+    ensures value { result ≡ source_part_unless_stored op part }
+    ensures part { IfSome result (λ from. IsNodePartInRange from) }
 {
     match op {
         Op::StoreP | Op::StorePlus | Op::StoreB | Op::Store => None,
@@ -196,30 +196,31 @@ fn unless_stored(op: Op, part: NodePart) -> Option<NodePart>
 // The part whose value an opcode leaves in a part. None for P and the slot, which nearly every step makes anew, nor for the
 // wait, the stop and the word from outside.
 #[inline(always)]
-fn by_op(op: Op, part: NodePart) -> Option<NodePart>
-    requires { IsNodePart part }
-    ensures value { result ≡ by_op op part }
-    ensures part { IfSome result (λ from. IsNodePart from) }
+fn source_part_by_opcode(op: Op, part: NodePart) -> Option<NodePart>
+    requires { IsNodePartInRange part }
+    ensures value { result ≡ source_part_by_opcode op part }
+    ensures part { IfSome result (λ from. IsNodePartInRange from) }
 {
     match part {
-        NodePart::Data(place) => moved_to_data(op, place),
-        NodePart::Return(place) => moved_to_return(op, place),
-        NodePart::Ram(_) | NodePart::Io => unless_stored(op, part),
+        NodePart::Data(place) => data_word_source_part(op, place),
+        NodePart::Return(place) => part_moved_to_return_place(op, place),
+        NodePart::Ram(_) | NodePart::Io => source_part_unless_stored(op, part),
         NodePart::Rom(_) | NodePart::I => Some(part),
-        NodePart::A => moved_to_a(op),
+        NodePart::A => source_part_of_a(op),
         NodePart::B => { if op == Op::BStore { None } else { Some(part) } }
         NodePart::Carry => { if op == Op::Plus { None } else { Some(part) } }
-        NodePart::P | NodePart::Slot | NodePart::Wait | NodePart::Stop | NodePart::Outside => None,
+        NodePart::P | NodePart::Slot | NodePart::Wait | NodePart::Stop | NodePart::OutsideWord =>
+            None,
     }
 }
 
 // The part whose value a fetch leaves in a part. None for P, I and the slot, which a fetch makes anew, nor for the wait, the
 // stop and the word from outside.
 #[inline(always)]
-fn by_fetch(part: NodePart) -> Option<NodePart>
-    requires { IsNodePart part }
-    ensures value { result ≡ by_fetch part }
-    ensures part { IfSome result (λ from. IsNodePart from) }
+fn source_part_by_fetch(part: NodePart) -> Option<NodePart>
+    requires { IsNodePartInRange part }
+    ensures value { result ≡ source_part_by_fetch part }
+    ensures part { IfSome result (λ from. IsNodePartInRange from) }
 {
     match part {
         NodePart::P
@@ -227,28 +228,28 @@ fn by_fetch(part: NodePart) -> Option<NodePart>
         | NodePart::Slot
         | NodePart::Wait
         | NodePart::Stop
-        | NodePart::Outside => None,
+        | NodePart::OutsideWord => None,
         _ => Some(part),
     }
 }
 
 // The part whose value a wait or a stop, which replaces the whole event, leaves in a part.
 #[inline(always)]
-fn by_pause(part: NodePart) -> Option<NodePart>
-    requires { IsNodePart part }
-    ensures value { result ≡ by_pause part }
-    ensures part { IfSome result (λ from. IsNodePart from) }
+fn source_of_part_after_wait_or_stop(part: NodePart) -> Option<NodePart>
+    requires { IsNodePartInRange part }
+    ensures value { result ≡ source_of_part_after_wait_or_stop part }
+    ensures part { IfSome result (λ from. IsNodePartInRange from) }
 {
     match part {
-        NodePart::Wait | NodePart::Stop | NodePart::Outside => None,
+        NodePart::Wait | NodePart::Stop | NodePart::OutsideWord => None,
         _ => Some(part),
     }
 }
 
 // What the address of a store by A or B names, of the opcode with this code.
 #[inline(always)]
-fn stored_at(code: u8, before: Registers) -> Option<AddressTarget>
-    ensures { result ≡ stored_at code before }
+fn store_target(code: u8, before: Registers) -> Option<AddressTarget>
+    ensures { result ≡ store_target code before }
 {
     match code {
         13 | 15 => Some(classify_address(before.a)),
@@ -259,11 +260,11 @@ fn stored_at(code: u8, before: Registers) -> Option<AddressTarget>
 
 // Whether an opcode with this code is a store by A or B that leaves a cell as it was, where these hold this before it.
 #[inline(never)]
-fn misses_by(code: u8, before: Registers, part: NodePart) -> bool
-    ensures { result ≡ misses_by code before part }
+fn opcode_stores_outside_part(code: u8, before: Registers, part: NodePart) -> bool
+    ensures { result ≡ opcode_stores_outside_part code before part }
 {
     match part {
-        NodePart::Ram(cell) => match stored_at(code, before) {
+        NodePart::Ram(cell) => match store_target(code, before) {
             Some(AddressTarget::Ram(other)) => other != cell,
             Some(_) => true,
             None => false,
@@ -274,38 +275,42 @@ fn misses_by(code: u8, before: Registers, part: NodePart) -> bool
 
 /// Whether a step, as made, ran a store by A or B that leaves a cell as it was, where A and B were these before it.
 #[inline(always)]
-pub(crate) fn misses(told: &Option<Made>, before: Registers, part: NodePart) -> bool
-    ensures { result ≡ misses told.now before part }
+pub(crate) fn event_stores_outside_part(
+    told: &Option<MadeEvent>,
+    before: Registers,
+    part: NodePart,
+) -> bool
+    ensures { result ≡ event_stores_outside_part told.now before part }
 {
     match told {
         Some(
-            Made::Own {
+            MadeEvent::Own {
                 kind: OwnEventKind::Run(code),
                 ..
             },
-        ) => misses_by(*code, before, part),
+        ) => opcode_stores_outside_part(*code, before, part),
         _ => false,
     }
 }
 
 /// The part from which a step moved a value to this one, if the step as made determines it whatever the node's values were.
 #[inline(always)]
-pub(crate) fn moved_by(told: &Option<Made>, part: NodePart) -> Option<NodePart>
-    requires { IsNodePart part }
-    ensures value { result ≡ moved_by told.now part }
-    ensures part { IfSome result (λ from. IsNodePart from) }
+pub(crate) fn source_part_by_event(told: &Option<MadeEvent>, part: NodePart) -> Option<NodePart>
+    requires { IsNodePartInRange part }
+    ensures value { result ≡ source_part_by_event told.now part }
+    ensures part { IfSome result (λ from. IsNodePartInRange from) }
 {
     match told {
-        Some(Made::Own { kind, .. }) => match kind {
+        Some(MadeEvent::Own { kind, .. }) => match kind {
             OwnEventKind::Run(code) => {
                 if *code < 32 {
-                    by_op(Op::from_code(*code), part)
+                    source_part_by_opcode(Op::from_code(*code), part)
                 } else {
                     None
                 }
             }
-            OwnEventKind::Fetch => by_fetch(part),
-            OwnEventKind::Wait | OwnEventKind::Stop(_) => by_pause(part),
+            OwnEventKind::Fetch => source_part_by_fetch(part),
+            OwnEventKind::Wait | OwnEventKind::Stop(_) => source_of_part_after_wait_or_stop(part),
         },
         _ => None,
     }
@@ -313,12 +318,12 @@ pub(crate) fn moved_by(told: &Option<Made>, part: NodePart) -> Option<NodePart>
 
 /// The place of the data stack from which a step moved a word to this one, if the step as made determines it.
 #[inline(always)]
-pub(crate) fn data_place(told: &Option<Made>, place: u8) -> Option<u8>
+pub(crate) fn data_place(told: &Option<MadeEvent>, place: u8) -> Option<u8>
     requires { place < 10 }
-    ensures value { IfSome result (λ from. moved_by told.now (NodePart.Data place) ≡ Some (NodePart.Data from)) }
+    ensures value { IfSome result (λ from. source_part_by_event told.now (NodePart.Data place) ≡ Some (NodePart.Data from)) }
     ensures within { IfSome result (λ from. from < 10) }
 {
-    match moved_by(told, NodePart::Data(place)) {
+    match source_part_by_event(told, NodePart::Data(place)) {
         Some(NodePart::Data(from)) => Some(from),
         _ => None,
     }

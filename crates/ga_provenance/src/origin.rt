@@ -1,23 +1,25 @@
 //! The step that made a value, and the cell of the instruction word to which a step belongs.
 
 ghost use Rattle.std.specs.Prelude.{◌≡◌, ◌<◌, ◌≤◌, ◌-◌, None, IfSome};
-ghost use Rattle.ga_node.specs.Record.{record_of};
+ghost use Rattle.ga_node.specs.Record.{record_of_node};
 ghost use Rattle.ga_event.specs.Told.{count_steps};
-ghost use Rattle.ga_lab.specs.Machine.{history_of, node_at_step};
-ghost use Rattle.ga_event.specs.Flow.{IsNodePart, flow_of, HasValidSources};
-ghost use Rattle.ga_provenance.specs.Origins.{is_memory_part, crosses_memory_border, moved_source_part, is_three_part_flow, listed_part, event_flow, value_flow_at_step, origin_after_steps, origin_of_value, node_after_steps};
-ghost use Rattle.ga_provenance.specs.inner.{moved_by, IsTrailTo};
+ghost use Rattle.ga_lab.specs.Machine.{history_of_node, node_at_step};
+ghost use Rattle.ga_event.specs.Flow.{IsNodePartInRange, flow_of_stored_flow, ComputesNothingFromOutsideWord};
+ghost use Rattle.ga_provenance.specs.Origins.{is_memory_part, moves_into_or_out_of_memory, moved_source_part, is_three_part_flow, part_to_list_for_value_flow, part_flow_by_event, value_flow_at_step, origin_after_steps, origin_of_value, node_after_steps};
+ghost use Rattle.ga_provenance.specs.inner.{source_part_by_event, IsTrailNotPastStep};
 ghost use Rattle.ga_ports.specs.Address.{address_target};
 ghost use Rattle.ga_provenance.specs.Fetched.{cell_of_target, fetched_cell};
 
 use crate::known::{known_flow, p_at};
-use crate::moving::moved_by;
+use crate::moving::source_part_by_event;
 use crate::trail::CachedWalk;
-use crate::value::Value;
-use ga_event::{Flow, Made, NodePart, flow_of_own_event, send_flow, take_flow};
+use crate::value::PartValue;
+use ga_event::{
+    MadeEvent, NodePart, ValueFlow, flow_after_send, flow_after_take, flow_of_own_event,
+};
 use ga_grid::NodeId;
 use ga_lab::{Lab, NodeWalk};
-use ga_node::{Node, Place};
+use ga_node::{Node, NodePlace};
 use ga_ports::{AddressTarget, classify_address};
 
 // Whether the part is a cell of memory.
@@ -32,8 +34,8 @@ pub(crate) fn is_cell(part: NodePart) -> bool
 }
 
 // Whether a value that moved from a part to another was read from memory or stored there.
-fn crosses_memory_border(from: NodePart, to: NodePart) -> bool
-    ensures { result ≡ crosses_memory_border from to }
+fn moves_into_or_out_of_memory(from: NodePart, to: NodePart) -> bool
+    ensures { result ≡ moves_into_or_out_of_memory from to }
 {
     if is_cell(from) {
         !is_cell(to)
@@ -43,39 +45,39 @@ fn crosses_memory_border(from: NodePart, to: NodePart) -> bool
 }
 
 // The part from which a value was moved to another part of the node alone, where it was.
-pub(crate) fn moved_source_part(flow: &Flow, to: NodePart) -> Option<NodePart>
-    requires { HasValidSources (flow_of flow.now) }
-    ensures value { result ≡ moved_source_part (flow_of flow.now) to }
-    ensures part { IfSome result (λ from. IsNodePart from) }
+pub(crate) fn moved_source_part(flow: &ValueFlow, to: NodePart) -> Option<NodePart>
+    requires { ComputesNothingFromOutsideWord (flow_of_stored_flow flow.now) }
+    ensures value { result ≡ moved_source_part (flow_of_stored_flow flow.now) to }
+    ensures part { IfSome result (λ from. IsNodePartInRange from) }
 {
     match flow {
-        Flow::Same(NodePart::Outside) => None,
-        Flow::Same(from) => {
-            if crosses_memory_border(*from, to) {
+        ValueFlow::CopiedFromPart(NodePart::OutsideWord) => None,
+        ValueFlow::CopiedFromPart(from) => {
+            if moves_into_or_out_of_memory(*from, to) {
                 None
             } else {
                 Some(*from)
             }
         }
-        Flow::From(_) => None,
+        ValueFlow::ComputedFromParts(_) => None,
     }
 }
 
 // Whether a value is computed from three parts.
-fn is_three_part_flow(flow: &Flow) -> bool
-    ensures { result ≡ is_three_part_flow (flow_of flow.now) }
+fn is_three_part_flow(flow: &ValueFlow) -> bool
+    ensures { result ≡ is_three_part_flow (flow_of_stored_flow flow.now) }
 {
     match flow {
-        Flow::Same(_) => false,
-        Flow::From(parts) => parts.len() == 3,
+        ValueFlow::CopiedFromPart(_) => false,
+        ValueFlow::ComputedFromParts(parts) => parts.len() == 3,
     }
 }
 
 // The part as which a value that a step made is listed.
-fn listed_part(flow: &Flow, part: NodePart) -> NodePart
-    requires { IsNodePart part }
-    ensures value { result ≡ listed_part (flow_of flow.now) part }
-    ensures part { IsNodePart result }
+fn part_to_list_for_value_flow(flow: &ValueFlow, part: NodePart) -> NodePart
+    requires { IsNodePartInRange part }
+    ensures value { result ≡ part_to_list_for_value_flow (flow_of_stored_flow flow.now) part }
+    ensures part { IsNodePartInRange result }
 {
     match part {
         NodePart::A => {
@@ -97,40 +99,40 @@ fn listed_part(flow: &Flow, part: NodePart) -> NodePart
 }
 
 // The source of the value that an event of a node, as made, leaves in a part.
-fn event_flow(made: &Made, before: &Node, node: NodeId, part: NodePart) -> Flow
-    requires { IsNodePart part }
-    ensures value { flow_of result ≡ event_flow made.now (record_of before.now) node.number part }
-    ensures sources { HasValidSources (flow_of result) }
+fn part_flow_by_event(made: &MadeEvent, before: &Node, node: NodeId, part: NodePart) -> ValueFlow
+    requires { IsNodePartInRange part }
+    ensures value { flow_of_stored_flow result ≡ part_flow_by_event made.now (record_of_node before.now) node.number part }
+    ensures sources { ComputesNothingFromOutsideWord (flow_of_stored_flow result) }
 {
     match made {
-        Made::Own { .. } => flow_of_own_event(before, part),
-        Made::Pass { reader, .. } => {
+        MadeEvent::Own { .. } => flow_of_own_event(before, part),
+        MadeEvent::Pass { reader, .. } => {
             if node.number == reader.number {
-                take_flow(before.wait(), part)
+                flow_after_take(before.wait(), part)
             } else {
-                send_flow(part)
+                flow_after_send(part)
             }
         }
     }
 }
 
 // Where the value of a part comes from that a node's next step leaves, from where it is walked back to; past its steps all stays.
-pub(crate) fn flow_behind(lab: &Lab, walk: &NodeWalk<'_>, node: NodeId, part: NodePart) -> Flow
-    requires part { IsNodePart part }
+pub(crate) fn flow_behind(lab: &Lab, walk: &NodeWalk<'_>, node: NodeId, part: NodePart) -> ValueFlow
+    requires part { IsNodePartInRange part }
     requires walk { walk.now ≡ node_at_step lab.now node walk.now.step }
-    ensures value { flow_of result ≡ value_flow_at_step lab.now node.number walk.now.step part }
-    ensures sources { HasValidSources (flow_of result) }
+    ensures value { flow_of_stored_flow result ≡ value_flow_at_step lab.now node.number walk.now.step part }
+    ensures sources { ComputesNothingFromOutsideWord (flow_of_stored_flow result) }
 {
     match lab.made_event_of_step(node, walk.step()) {
-        Some(made) => event_flow(&made, walk.node(), node, part),
-        None => Flow::Same(part),
+        Some(made) => part_flow_by_event(&made, walk.node(), node, part),
+        None => ValueFlow::CopiedFromPart(part),
     }
 }
 
 // The value's step, or the last of the node if it made fewer: after that nothing is made.
 #[tactic(auto, using(crate::proofs::Made::origin_last))]
-pub(crate) fn kept_step(lab: &Lab, value: Value) -> u32
-    requires { IsNodePart value.part }
+pub(crate) fn kept_step(lab: &Lab, value: PartValue) -> u32
+    requires { IsNodePartInRange value.part }
     ensures same { origin_after_steps lab.now value.node result value.part ≡ origin_of_value lab.now value }
     ensures within { result ≤ count_steps value.node.number lab.now.kept }
 {
@@ -145,14 +147,14 @@ pub(crate) fn kept_step(lab: &Lab, value: Value) -> u32
 /// The newest step up to the value's own that made it, with the value's part then, or step 0 if the value was loaded. A step
 /// that only moved the value from part to part of the node, as `dup` or `push`, made nothing. Takes time linear in the number
 /// of steps that the node made since.
-pub fn origin_of_value(lab: &Lab, value: Value) -> Value
-    requires { IsNodePart value.part }
+pub fn origin_of_value(lab: &Lab, value: PartValue) -> PartValue
+    requires { IsNodePartInRange value.part }
     ensures value { result ≡ origin_of_value lab.now value }
-    ensures part { IsNodePart result.part }
+    ensures part { IsNodePartInRange result.part }
     ensures within { result.step ≤ count_steps value.node.number lab.now.kept }
 {
     let step = kept_step(lab, value);
-    let mut trail = CachedWalk::new(lab, value.node, lab.walk(value.node, step));
+    let mut trail = CachedWalk::new(lab, value.node, lab.walk_node_from_step(value.node, step));
     origin_behind(lab, &mut trail, value.node, step, value.part)
 }
 
@@ -173,7 +175,7 @@ pub(crate) fn trail_near<'l>(
     if at == node && step <= near.step() {
         CachedWalk::new(lab, node, near.copy())
     } else {
-        CachedWalk::new(lab, node, lab.walk(node, lab.steps(node)))
+        CachedWalk::new(lab, node, lab.walk_node_from_step(node, lab.steps(node)))
     }
 }
 
@@ -209,11 +211,11 @@ pub(crate) fn flow_by_trail(
     node: NodeId,
     place: u32,
     part: NodePart,
-) -> Flow
-    requires part { IsNodePart part }
-    requires trail { IsTrailTo lab.now node trail.old place }
-    ensures value { flow_of result ≡ value_flow_at_step lab.now node.number place part }
-    ensures sources { HasValidSources (flow_of result) }
+) -> ValueFlow
+    requires part { IsNodePartInRange part }
+    requires trail { IsTrailNotPastStep lab.now node trail.old place }
+    ensures value { flow_of_stored_flow result ≡ value_flow_at_step lab.now node.number place part }
+    ensures sources { ComputesNothingFromOutsideWord (flow_of_stored_flow result) }
     ensures trail { trail.new ≡ node_at_step lab.now node trail.new.step }
     ensures order { place ≤ trail.new.step }
 {
@@ -233,29 +235,29 @@ pub(crate) fn origin_behind(
     node: NodeId,
     step: u32,
     part: NodePart,
-) -> Value
-    requires part { IsNodePart part }
-    requires trail { IsTrailTo lab.now node trail.old step }
+) -> PartValue
+    requires part { IsNodePartInRange part }
+    requires trail { IsTrailNotPastStep lab.now node trail.old step }
     ensures value { result ≡ origin_after_steps lab.now node step part }
-    ensures part { IsNodePart result.part }
+    ensures part { IsNodePartInRange result.part }
     ensures within { result.step ≤ step }
     ensures node { result.node ≡ node }
     ensures trail { trail.new ≡ node_at_step lab.now node trail.new.step }
     ensures order { result.step - 1 ≤ trail.new.step }
 {
-    let mut value = trail.trace_by_records(lab, Value { node, step, part });
+    let mut value = trail.trace_by_steps_as_made(lab, PartValue { node, step, part });
     'steps: while value.step > 0 {
-        let Value { step, part, .. } = value;
+        let PartValue { step, part, .. } = value;
         let flow = flow_by_trail(lab, trail, node, step - 1, part);
         match moved_source_part(&flow, part) {
             Some(from) => {
                 let step = step - 1;
                 let part = from;
-                value = trail.trace_by_records(lab, Value { node, step, part });
+                value = trail.trace_by_steps_as_made(lab, PartValue { node, step, part });
             }
             None => {
-                let part = listed_part(&flow, part);
-                return Value { node, step, part };
+                let part = part_to_list_for_value_flow(&flow, part);
+                return PartValue { node, step, part };
             }
         }
     }
@@ -274,16 +276,16 @@ fn cell_of(address: u32) -> Option<u8>
 }
 
 /// P of a node.
-#[tactic(auto, unfolding(ga_node::specs::Record::record_of))]
+#[tactic(auto, unfolding(ga_node::specs::Record::record_of_node))]
 fn p_of(node: &Node) -> u32
-    ensures { result ≡ (record_of node.now).p }
+    ensures { result ≡ (record_of_node node.now).p }
 {
-    node.get(Place::P)
+    node.get(NodePlace::P)
 }
 
 /// P right before the step at a place. The node is walked back only if the entries don't determine it.
 fn p_by_trail(lab: &Lab, trail: &mut CachedWalk<'_>, node: NodeId, place: u32) -> u32
-    requires trail { IsTrailTo lab.now node trail.old place }
+    requires trail { IsTrailNotPastStep lab.now node trail.old place }
     requires within { place ≤ count_steps node.number lab.now.kept }
     ensures { (node_after_steps lab.now node.number place).p ≡ result }
 {
@@ -309,7 +311,7 @@ pub fn fetched_cell_at<'l>(
     ensures { result ≡ fetched_cell lab.now node step }
 {
     let part = NodePart::I;
-    let step = kept_step(lab, Value { node, step, part });
+    let step = kept_step(lab, PartValue { node, step, part });
     let mut trail = trail_near(lab, near, at, node, step);
     let made = origin_behind(lab, &mut trail, node, step, part);
     if made.step == 0 {

@@ -3,21 +3,21 @@
 ghost use Rattle.std.specs.Prelude.{◌≡◌};
 ghost use Rattle.std.specs.List.{list_any};
 ghost use Rattle.ga_provenance.specs.Sources.{is_same_value};
-ghost use Rattle.ga_provenance.specs.Lines.{is_same_action, is_same_event, event_that_made_value, is_same_opcode_repetition, are_values_among};
+ghost use Rattle.ga_provenance.specs.Lines.{ran_same_opcode, is_same_opcode_event, event_that_made_value, is_same_opcode_repetition, are_values_among};
 
 use crate::origin::{kept_step, origin_behind, trail_on};
 use crate::trail::CachedWalk;
-use crate::value::Value;
+use crate::value::PartValue;
 use crate::value_sources::sources_by_trail;
 use arrayvec::ArrayVec;
-use ga_event::Made;
+use ga_event::MadeEvent;
 use ga_grid::NodeId;
 use ga_lab::{Lab, NodeWalk};
 use ga_node::OwnEventKind;
 
 // Whether two events of a node's own ran the same opcode, or fetched.
-fn is_same_action(kind: OwnEventKind, other: OwnEventKind) -> bool
-    ensures { result ≡ is_same_action kind other }
+fn ran_same_opcode(kind: OwnEventKind, other: OwnEventKind) -> bool
+    ensures { result ≡ ran_same_opcode kind other }
 {
     match kind {
         OwnEventKind::Fetch => match other {
@@ -33,50 +33,50 @@ fn is_same_action(kind: OwnEventKind, other: OwnEventKind) -> bool
 }
 
 // Whether two steps, as made, ran the same opcode, or fetched.
-fn is_same_event(made: Option<Made>, other: Option<Made>) -> bool
-    ensures { result ≡ is_same_event made other }
+fn is_same_opcode_event(made: Option<MadeEvent>, other: Option<MadeEvent>) -> bool
+    ensures { result ≡ is_same_opcode_event made other }
 {
     match made {
-        Some(Made::Own { kind, .. }) => match other {
-            Some(Made::Own { kind: more, .. }) => is_same_action(kind, more),
-            Some(Made::Pass { .. }) => false,
+        Some(MadeEvent::Own { kind, .. }) => match other {
+            Some(MadeEvent::Own { kind: more, .. }) => ran_same_opcode(kind, more),
+            Some(MadeEvent::Pass { .. }) => false,
             None => false,
         },
-        Some(Made::Pass { .. }) => false,
+        Some(MadeEvent::Pass { .. }) => false,
         None => false,
     }
 }
 
 // The step that made a value, as made.
-fn event_that_made_value(lab: &Lab, value: Value) -> Option<Made>
+fn event_that_made_value(lab: &Lab, value: PartValue) -> Option<MadeEvent>
     ensures { result ≡ event_that_made_value lab.now value }
 {
     lab.made_event_of_step(value.node, value.step.saturating_sub(1))
 }
 
 // Whether the same opcode left two values in one part of a node, the second one earlier.
-fn is_same_opcode_repetition(lab: &Lab, value: Value, next: Value) -> bool
+fn is_same_opcode_repetition(lab: &Lab, value: PartValue, next: PartValue) -> bool
     ensures { result ≡ is_same_opcode_repetition lab.now value next }
 {
     next.step > 0
         && next.step < value.step
         && value.node.number == next.node.number
-        && value.part.is_equal_to(next.part)
-        && is_same_event(
+        && value.part.is_same_node_part(next.part)
+        && is_same_opcode_event(
             event_that_made_value(lab, value),
             event_that_made_value(lab, next),
         )
 }
 
 // Whether a value is among others.
-fn is_among(value: Value, others: &[Value]) -> bool
+fn is_among(value: PartValue, others: &[PartValue]) -> bool
     ensures { result ≡ list_any (is_same_value value) others.now }
 {
     others.iter().any(|other| value.is_equal_to(*other))
 }
 
 // Whether each value is this one or among some others.
-fn are_values_among(value: Value, others: &[Value], values: &[Value]) -> bool
+fn are_values_among(value: PartValue, others: &[PartValue], values: &[PartValue]) -> bool
     ensures { result ≡ are_values_among value others.now values.now }
 {
     values
@@ -87,11 +87,11 @@ fn are_values_among(value: Value, others: &[Value], values: &[Value]) -> bool
 /// A value with those from which it was made.
 #[derive(Debug, Drop)]
 pub(crate) struct TracedValue {
-    pub value: Value,
+    pub value: PartValue,
     /// The values from which it was made, where its step read them.
-    pub used: ArrayVec<Value, 3>,
+    pub used: ArrayVec<PartValue, 3>,
     /// The same values, as the steps made them.
-    pub origins: ArrayVec<Value, 3>,
+    pub origins: ArrayVec<PartValue, 3>,
 }
 
 /// A search: a walk of a node, which isn't walked on, and a trail of the node that was searched last.
@@ -110,13 +110,13 @@ ghost use Rattle.ga_lab.specs.Machine.{node_at_step};
 
 impl<'l, 'n> SourceSearch<'l, 'n> {
     ghost use Rattle.std.specs.Prelude.{◌≡◌, ◌≤◌, All, IfSome, option_map};
-    ghost use Rattle.ga_event.specs.Flow.{IsNodePart};
+    ghost use Rattle.ga_event.specs.Flow.{IsNodePartInRange};
     ghost use Rattle.ga_event.specs.Told.{count_steps};
     ghost use Rattle.ga_lab.specs.Machine.{node_at_step};
     ghost use Rattle.ga_provenance.specs.Origins.{origin_of_value};
     ghost use Rattle.ga_provenance.specs.Lines.{next_value_in_run};
     ghost use Rattle.ga_provenance.specs.Sources.{value_sources};
-    ghost use Rattle.ga_provenance.specs.inner.{IsOfPart, IsKept, IsTraced, traced_value};
+    ghost use Rattle.ga_provenance.specs.inner.{HasValuePartInRange, IsValueInHistory, IsValueTraced, part_value_of_traced_value};
 
     /// A search that begins where a node is walked back to.
     pub fn new(lab: &'l Lab, near: &'n NodeWalk<'l>, at: NodeId) -> Self
@@ -156,11 +156,11 @@ impl<'l, 'n> SourceSearch<'l, 'n> {
     }
 
     /// Finds the step that made a value.
-    pub fn origin_of_value(self, value: Value) -> (Self, Value)
-        requires { IsNodePart value.part }
+    pub fn origin_of_value(self, value: PartValue) -> (Self, PartValue)
+        requires { IsNodePartInRange value.part }
         ensures lab { result.0.lab.now ≡ self.entry.lab.now }
         ensures value { result.1 ≡ origin_of_value self.entry.lab.now value }
-        ensures kept { IsKept self.entry.lab.now result.1 }
+        ensures kept { IsValueInHistory self.entry.lab.now result.1 }
     {
         let step = kept_step(self.lab, value);
         let SourceSearch {
@@ -182,11 +182,11 @@ impl<'l, 'n> SourceSearch<'l, 'n> {
     }
 
     // The values from which a value was made, where its step read them.
-    fn sources_of(self, value: Value) -> (Self, ArrayVec<Value, 3>)
-        requires { IsKept self.lab.now value }
+    fn sources_of(self, value: PartValue) -> (Self, ArrayVec<PartValue, 3>)
+        requires { IsValueInHistory self.lab.now value }
         ensures lab { result.0.lab.now ≡ self.entry.lab.now }
         ensures values { result.1.items ≡ value_sources self.entry.lab.now value }
-        ensures parts { All IsOfPart result.1.items }
+        ensures parts { All HasValuePartInRange result.1.items }
     {
         let SourceSearch {
             lab,
@@ -207,11 +207,11 @@ impl<'l, 'n> SourceSearch<'l, 'n> {
     }
 
     /// Finds the values from which a value was made.
-    pub fn trace(self, value: Value) -> (Self, TracedValue)
-        requires { IsKept self.lab.now value }
+    pub fn trace_value_sources(self, value: PartValue) -> (Self, TracedValue)
+        requires { IsValueInHistory self.lab.now value }
         ensures lab { result.0.lab.now ≡ self.entry.lab.now }
         ensures value { result.1.value ≡ value }
-        ensures traced { IsTraced self.entry.lab.now result.1 }
+        ensures traced { IsValueTraced self.entry.lab.now result.1 }
     {
         let (mut search, used) = self.sources_of(value);
         let mut origins = ArrayVec::new();
@@ -230,10 +230,10 @@ impl<'l, 'n> SourceSearch<'l, 'n> {
 
     /// The value with which the run of a value continues.
     pub fn next_value_in_run(self, traced: &TracedValue) -> (Self, Option<TracedValue>)
-        requires { IsTraced self.lab.now traced.now }
+        requires { IsValueTraced self.lab.now traced.now }
         ensures lab { result.0.lab.now ≡ self.entry.lab.now }
-        ensures next { option_map traced_value result.1 ≡ next_value_in_run self.entry.lab.now traced.now.value }
-        ensures traced { IfSome result.1 (IsTraced self.entry.lab.now) }
+        ensures next { option_map part_value_of_traced_value result.1 ≡ next_value_in_run self.entry.lab.now traced.now.value }
+        ensures traced { IfSome result.1 (IsValueTraced self.entry.lab.now) }
     {
         let mut search = self;
         'origins: for next in traced.origins.as_slice() {
@@ -241,7 +241,7 @@ impl<'l, 'n> SourceSearch<'l, 'n> {
             if !is_same_opcode_repetition(search.lab, traced.value, next) {
                 continue 'origins;
             }
-            let (found, further) = search.trace(next);
+            let (found, further) = search.trace_value_sources(next);
             search = found;
             if are_values_among(next, further.origins.as_slice(), traced.origins.as_slice()) {
                 return (search, Some(further));

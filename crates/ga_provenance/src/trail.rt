@@ -1,13 +1,13 @@
 //! A node that is followed back over its steps, with its tracked registers that address.
 
 ghost use Rattle.std.specs.Prelude.{◌≡◌, ◌≤◌, ◌+◌, true, IfSome};
-ghost use Rattle.ga_event.specs.Flow.{IsNodePart};
+ghost use Rattle.ga_event.specs.Flow.{IsNodePartInRange};
 ghost use Rattle.ga_provenance.specs.Origins.{origin_of_value};
-ghost use Rattle.ga_provenance.specs.inner.{AreHeld, IsFollowed};
+ghost use Rattle.ga_provenance.specs.inner.{AreRegistersAfterSteps, IsValueFollowedBack};
 
 use crate::kept::{Registers, registers_at, registers_before, registers_in};
-use crate::moving::{data_place, misses, moved_by};
-use crate::value::Value;
+use crate::moving::{data_place, event_stores_outside_part, source_part_by_event};
+use crate::value::PartValue;
 use ga_event::NodePart;
 use ga_grid::NodeId;
 use ga_lab::{Lab, NodeWalk};
@@ -16,7 +16,7 @@ use std::marker::Model;
 /// A value that was followed back, and A and B after its step.
 #[derive(Clone, Copy, PartialEq, Eq, Debug)]
 struct Followed {
-    value: Value,
+    value: PartValue,
     registers: Registers,
 }
 
@@ -24,13 +24,13 @@ struct Followed {
 // value is returned as it is.
 #[inline(always)]
 fn follow_data(lab: &Lab, followed: Followed, along: bool) -> Followed
-    requires part { IsNodePart followed.value.part }
-    requires held { along ≡ true → AreHeld lab.now followed.value.node.number followed.value.step followed.registers }
+    requires part { IsNodePartInRange followed.value.part }
+    requires held { along ≡ true → AreRegistersAfterSteps lab.now followed.value.node.number followed.value.step followed.registers }
     ensures same { origin_of_value lab.now result.value ≡ origin_of_value lab.now followed.value }
-    ensures part { IsNodePart result.value.part }
+    ensures part { IsNodePartInRange result.value.part }
     ensures node { result.value.node ≡ followed.value.node }
     ensures within { result.value.step ≤ followed.value.step }
-    ensures held { along ≡ true → AreHeld lab.now followed.value.node.number result.value.step result.registers }
+    ensures held { along ≡ true → AreRegistersAfterSteps lab.now followed.value.node.number result.value.step result.registers }
 {
     let Followed {
         value,
@@ -39,7 +39,7 @@ fn follow_data(lab: &Lab, followed: Followed, along: bool) -> Followed
     let NodePart::Data(mut place) = value.part else {
         return followed;
     };
-    let Value { node, mut step, .. } = value;
+    let PartValue { node, mut step, .. } = value;
     'telling: while step > 0 {
         let told = lab.made_event_of_step(node, step - 1);
         match data_place(&told, place) {
@@ -52,18 +52,18 @@ fn follow_data(lab: &Lab, followed: Followed, along: bool) -> Followed
         }
     }
     let part = NodePart::Data(place);
-    let value = Value { node, step, part };
+    let value = PartValue { node, step, part };
     Followed { value, registers }
 }
 
 // Follows a value back over the steps of its node that, as made, determine from where they moved it, and A and B too if
 // `along`.
 #[inline(always)]
-fn follow(lab: &Lab, value: Value, along: bool, behind: Registers) -> Followed
-    requires part { IsNodePart value.part }
-    requires held { along ≡ true → AreHeld lab.now value.node.number value.step behind }
-    ensures followed { IsFollowed lab.now value result.value }
-    ensures held { along ≡ true → AreHeld lab.now value.node.number result.value.step result.registers }
+fn follow(lab: &Lab, value: PartValue, along: bool, behind: Registers) -> Followed
+    requires part { IsNodePartInRange value.part }
+    requires held { along ≡ true → AreRegistersAfterSteps lab.now value.node.number value.step behind }
+    ensures followed { IsValueFollowedBack lab.now value result.value }
+    ensures held { along ≡ true → AreRegistersAfterSteps lab.now value.node.number result.value.step result.registers }
 {
     let mut value = value;
     let mut registers = behind;
@@ -76,11 +76,11 @@ fn follow(lab: &Lab, value: Value, along: bool, behind: Registers) -> Followed
                 break 'telling;
             }
         }
-        let Value { node, step, part } = value;
+        let PartValue { node, step, part } = value;
         let step = step - 1;
         let told = lab.made_event_of_step(node, step);
-        match moved_by(&told, part) {
-            Some(part) => value = Value { node, step, part },
+        match source_part_by_event(&told, part) {
+            Some(part) => value = PartValue { node, step, part },
             None => return Followed { value, registers },
         }
         if along {
@@ -92,36 +92,36 @@ fn follow(lab: &Lab, value: Value, along: bool, behind: Registers) -> Followed
 
 // A value of a cell as it was a step before, where the step ran a store by A or B that left it.
 fn passed(lab: &Lab, followed: Followed) -> Option<Followed>
-    requires part { IsNodePart followed.value.part }
-    requires held { AreHeld lab.now followed.value.node.number followed.value.step followed.registers }
+    requires part { IsNodePartInRange followed.value.part }
+    requires held { AreRegistersAfterSteps lab.now followed.value.node.number followed.value.step followed.registers }
     ensures same { IfSome result (λ before. origin_of_value lab.now before.value ≡ origin_of_value lab.now followed.value) }
-    ensures part { IfSome result (λ before. IsNodePart before.value.part) }
+    ensures part { IfSome result (λ before. IsNodePartInRange before.value.part) }
     ensures node { IfSome result (λ before. before.value.node ≡ followed.value.node) }
     ensures step { IfSome result (λ before. before.value.step + 1 ≡ followed.value.step) }
-    ensures held { IfSome result (λ before. AreHeld lab.now before.value.node.number before.value.step before.registers) }
+    ensures held { IfSome result (λ before. AreRegistersAfterSteps lab.now before.value.node.number before.value.step before.registers) }
 {
     let Followed { value, registers } = followed;
-    let Value { node, step, part } = value;
+    let PartValue { node, step, part } = value;
     if step == 0 {
         return None;
     }
     let step = step - 1;
     let told = lab.made_event_of_step(node, step);
     let registers = registers_before(lab, node, step, &told, registers);
-    if !misses(&told, registers, part) {
+    if !event_stores_outside_part(&told, registers, part) {
         return None;
     }
-    let value = Value { node, step, part };
+    let value = PartValue { node, step, part };
     Some(Followed { value, registers })
 }
 
 // A value followed back along with A and B, and over the stores that left it.
 #[inline(never)]
-fn follow_on(lab: &Lab, value: Value, behind: Registers) -> Followed
-    requires part { IsNodePart value.part }
-    requires held { AreHeld lab.now value.node.number value.step behind }
-    ensures followed { IsFollowed lab.now value result.value }
-    ensures held { AreHeld lab.now value.node.number result.value.step result.registers }
+fn follow_on(lab: &Lab, value: PartValue, behind: Registers) -> Followed
+    requires part { IsNodePartInRange value.part }
+    requires held { AreRegistersAfterSteps lab.now value.node.number value.step behind }
+    ensures followed { IsValueFollowedBack lab.now value result.value }
+    ensures held { AreRegistersAfterSteps lab.now value.node.number result.value.step result.registers }
 {
     let registers = behind;
     let mut followed = Followed { value, registers };
@@ -147,27 +147,27 @@ pub(crate) struct CachedWalk<'l> {
 
 impl<'l> Model for CachedWalk<'l> {
     ghost use Rattle.ga_lab.specs.Machine.{NodeAtStep};
-    ghost use Rattle.ga_provenance.specs.inner.{AreHeld};
+    ghost use Rattle.ga_provenance.specs.inner.{AreRegistersAfterSteps};
 
     ghost Value = { NodeAtStep };
 
     ghost view = { λ t. t.walk };
 
-    ghost invariant = { λ t. AreHeld t.walk.machine t.walk.node.number t.step t.registers };
+    ghost invariant = { λ t. AreRegistersAfterSteps t.walk.machine t.walk.node.number t.step t.registers };
 }
 
 impl<'l> CachedWalk<'l> {
     ghost use Rattle.std.specs.Prelude.{◌≡◌, ◌≤◌};
     ghost use Rattle.ga_event.specs.Told.{count_steps};
     ghost use Rattle.ga_lab.specs.Machine.{node_at_step};
-    ghost use Rattle.ga_event.specs.Flow.{IsNodePart};
-    ghost use Rattle.ga_provenance.specs.inner.{IsWhole, AreHeld, IsFollowed, IsTrailTo};
+    ghost use Rattle.ga_event.specs.Flow.{IsNodePartInRange};
+    ghost use Rattle.ga_provenance.specs.inner.{HasMachineAllNodes, AreRegistersAfterSteps, IsValueFollowedBack, IsTrailNotPastStep};
 
     /// A trail from where a node is walked back to.
     pub fn new(lab: &'l Lab, node: NodeId, walk: NodeWalk<'l>) -> Self
         requires { walk ≡ node_at_step lab.now node walk.step }
         ensures walk { result ≡ walk.entry }
-        ensures whole { IsWhole lab.now }
+        ensures whole { HasMachineAllNodes lab.now }
     {
         let registers = registers_in(lab, node, &walk);
         let step = walk.step();
@@ -203,10 +203,10 @@ impl<'l> CachedWalk<'l> {
 
     /// Follows a value back over the steps of the node that, as made, determine from where they moved it. If A and B are known
     /// after the value's step, they are then known at the returned value's step.
-    pub fn trace_by_records(&mut self, lab: &Lab, value: Value) -> Value
-        requires part { IsNodePart value.part }
+    pub fn trace_by_steps_as_made(&mut self, lab: &Lab, value: PartValue) -> PartValue
+        requires part { IsNodePartInRange value.part }
         requires trail { self.old ≡ node_at_step lab.now value.node self.old.step }
-        ensures followed { IsFollowed lab.now value result }
+        ensures followed { IsValueFollowedBack lab.now value result }
         ensures trail { self.new ≡ self.old }
     {
         if self.step == value.step {
@@ -220,9 +220,9 @@ impl<'l> CachedWalk<'l> {
     }
 
     /// Stores A and B after `step` steps.
-    pub fn note(&mut self, lab: &Lab, node: NodeId, step: u32, registers: Registers)
+    pub fn store_walk_registers(&mut self, lab: &Lab, node: NodeId, step: u32, registers: Registers)
         requires trail { self.old ≡ node_at_step lab.now node self.old.step }
-        requires held { AreHeld lab.now node.number step registers }
+        requires held { AreRegistersAfterSteps lab.now node.number step registers }
         ensures { self.new ≡ self.old }
     {
         self.step = step;
@@ -231,8 +231,8 @@ impl<'l> CachedWalk<'l> {
 
     /// A and B after `step` steps. Takes time linear in the number of steps between there and where they were known.
     pub fn registers(&mut self, lab: &Lab, node: NodeId, step: u32) -> Registers
-        requires trail { IsTrailTo lab.now node self.old step }
-        ensures held { AreHeld lab.now node.number step result }
+        requires trail { IsTrailNotPastStep lab.now node self.old step }
+        ensures held { AreRegistersAfterSteps lab.now node.number step result }
         ensures same { self.new ≡ self.old }
     {
         if self.step < step {

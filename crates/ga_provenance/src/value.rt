@@ -5,7 +5,7 @@ use ga_grid::NodeId;
 
 /// The value of a part of a node right after a step of it, or at load for step 0.
 #[derive(Clone, Copy, PartialEq, Eq, Debug)]
-pub struct Value {
+pub struct PartValue {
     /// The node.
     pub node: NodeId,
     /// How many steps it had made.
@@ -15,9 +15,9 @@ pub struct Value {
 }
 
 /// T of node 000 at load, with which room for values begins.
-impl Default for Value {
+impl Default for PartValue {
     fn default() -> Self {
-        Value {
+        PartValue {
             node: NodeId::new(0),
             step: 0,
             part: NodePart::default(),
@@ -25,16 +25,16 @@ impl Default for Value {
     }
 }
 
-impl Value {
+impl PartValue {
     ghost use Rattle.std.specs.Prelude.{◌≡◌};
     ghost use Rattle.ga_provenance.specs.Sources.{is_same_value};
 
     /// Whether the two are of one part after one step.
-    pub fn is_equal_to(self, other: Value) -> bool
+    pub fn is_equal_to(self, other: PartValue) -> bool
         ensures { result ≡ is_same_value self other }
     {
         self.node.number == other.node.number
             && self.step == other.step
-            && self.part.is_equal_to(other.part)
+            && self.part.is_same_node_part(other.part)
     }
 }

@@ -1,22 +1,22 @@
 //! The steps that wrote a cell of memory.
 
 ghost use Rattle.std.specs.Prelude.{◌≡◌, ◌<◌, ◌≤◌, ◌+◌, ◌-◌, ◌^◌, IfSome, slice_index};
-ghost use Rattle.ga_node.specs.Record.{record_of};
+ghost use Rattle.ga_node.specs.Record.{record_of_node};
 ghost use Rattle.ga_event.specs.Told.{count_steps};
-ghost use Rattle.ga_event.specs.Flow.{flow_of};
-ghost use Rattle.ga_provenance.specs.Writes.{is_write_flow, cell_write_at, newest_cell_write};
-ghost use Rattle.ga_provenance.specs.inner.{IsReached, IsFollowedBack, ran_store};
+ghost use Rattle.ga_event.specs.Flow.{flow_of_stored_flow};
+ghost use Rattle.ga_provenance.specs.Writes.{is_cell_written_by_flow, cell_write_at, newest_cell_write};
+ghost use Rattle.ga_provenance.specs.inner.{IsCellStateAfterSteps, IsCellStateFollowedBack, ran_store_opcode};
 
 use crate::kept::{
     Registers, TrackedPlace, registers_before, registers_in, value_after, word_before,
 };
-use crate::moving::misses;
+use crate::moving::event_stores_outside_part;
 use crate::origin::{flow_by_trail, is_cell};
 use crate::trail::CachedWalk;
-use ga_event::{Flow, Made, NodePart};
+use ga_event::{MadeEvent, NodePart, ValueFlow};
 use ga_grid::NodeId;
 use ga_lab::Lab;
-use ga_node::{Node, OwnEventKind, Place};
+use ga_node::{Node, NodePlace, OwnEventKind};
 use ga_word::Word18;
 use std::marker::Model;
 
@@ -26,38 +26,38 @@ pub struct CellWrite {
     /// The number of the step.
     pub step: u32,
     /// The step as made.
-    pub made: Made,
+    pub made: MadeEvent,
     /// The word in the cell after the step.
     pub word: Word18,
 }
 
 // Whether the value of a cell was stored there.
-fn is_write_flow(flow: &Flow) -> bool
-    ensures { result ≡ is_write_flow (flow_of flow.now) }
+fn is_cell_written_by_flow(flow: &ValueFlow) -> bool
+    ensures { result ≡ is_cell_written_by_flow (flow_of_stored_flow flow.now) }
 {
     match flow {
-        Flow::Same(from) => !is_cell(*from),
-        Flow::From(_) => true,
+        ValueFlow::CopiedFromPart(from) => !is_cell(*from),
+        ValueFlow::ComputedFromParts(_) => true,
     }
 }
 
 // The word in a cell of RAM.
-#[tactic(auto, unfolding(ga_node::specs::Record::record_of))]
+#[tactic(auto, unfolding(ga_node::specs::Record::record_of_node))]
 fn word_in(node: &Node, cell: u8) -> u32
     requires { cell < 64 }
-    ensures value { result ≡ slice_index (record_of node.now).ram cell }
+    ensures value { result ≡ slice_index (record_of_node node.now).ram cell }
     ensures fits { result < 2 ^ 18 }
 {
-    node.get(Place::Ram(cell))
+    node.get(NodePlace::Ram(cell))
 }
 
 // Whether a step, as made, ran a store, whose codes are 0c to 0f: nothing else writes memory.
-fn ran_store(told: &Option<Made>) -> bool
-    ensures { result ≡ ran_store told.now }
+fn ran_store_opcode(told: &Option<MadeEvent>) -> bool
+    ensures { result ≡ ran_store_opcode told.now }
 {
     match told {
         Some(
-            Made::Own {
+            MadeEvent::Own {
                 kind: OwnEventKind::Run(code),
                 ..
             },
@@ -78,8 +78,8 @@ struct Reached {
 // Passes the steps that ran no store, back to the newest one that did, if there is one.
 fn back_to_store(lab: &Lab, node: NodeId, cell: u8, from: Reached) -> Reached
     requires cell { cell < 64 }
-    requires held { IsReached lab.now node.number cell from }
-    ensures { IsFollowedBack lab.now node.number cell from result }
+    requires held { IsCellStateAfterSteps lab.now node.number cell from }
+    ensures { IsCellStateFollowedBack lab.now node.number cell from result }
 {
     let Reached {
         mut step,
@@ -89,7 +89,7 @@ fn back_to_store(lab: &Lab, node: NodeId, cell: u8, from: Reached) -> Reached
     'going: while step > 0 {
         let at = step - 1;
         let told = lab.made_event_of_step(node, at);
-        if ran_store(&told) {
+        if ran_store_opcode(&told) {
             return Reached {
                 step,
                 registers,
@@ -111,8 +111,8 @@ fn back_to_store(lab: &Lab, node: NodeId, cell: u8, from: Reached) -> Reached
 #[tactic(auto, using(crate::proofs::Keeping::wrote_before, crate::proofs::Keeping::misses_writes))]
 fn back_past_store(lab: &Lab, node: NodeId, cell: u8, from: Reached) -> Option<Reached>
     requires cell { cell < 64 }
-    requires held { IsReached lab.now node.number cell from }
-    ensures held { IfSome result (λ before. IsReached lab.now node.number cell before) }
+    requires held { IsCellStateAfterSteps lab.now node.number cell from }
+    ensures held { IfSome result (λ before. IsCellStateAfterSteps lab.now node.number cell before) }
     ensures same { IfSome result (λ before. newest_cell_write lab.now node.number cell before.step
         ≡ newest_cell_write lab.now node.number cell from.step) }
     ensures step { IfSome result (λ before. before.step + 1 ≡ from.step) }
@@ -128,7 +128,7 @@ fn back_past_store(lab: &Lab, node: NodeId, cell: u8, from: Reached) -> Option<R
     let step = step - 1;
     let told = lab.made_event_of_step(node, step);
     let registers = registers_before(lab, node, step, &told, registers);
-    if !misses(&told, registers, NodePart::Ram(cell)) {
+    if !event_stores_outside_part(&told, registers, NodePart::Ram(cell)) {
         return None;
     }
     let word = word_before(lab, node, step, TrackedPlace::Ram(cell), word);
@@ -142,8 +142,8 @@ fn back_past_store(lab: &Lab, node: NodeId, cell: u8, from: Reached) -> Option<R
 // Passes back to the newest step that ran a store, except for those by A or B that named another cell.
 fn back_to_write(lab: &Lab, node: NodeId, cell: u8, from: Reached) -> Reached
     requires cell { cell < 64 }
-    requires held { IsReached lab.now node.number cell from }
-    ensures { IsFollowedBack lab.now node.number cell from result }
+    requires held { IsCellStateAfterSteps lab.now node.number cell from }
+    ensures { IsCellStateFollowedBack lab.now node.number cell from result }
 {
     let mut reached = back_to_store(lab, node, cell, from);
     'missing: while let Some(before) = back_past_store(lab, node, cell, reached) {
@@ -165,13 +165,13 @@ pub struct CellWrites<'l> {
 
 impl<'l> Model for CellWrites<'l> {
     ghost use Rattle.ga_provenance.specs.Writes.{CellWriteSearch, cell_write_search};
-    ghost use Rattle.ga_provenance.specs.inner.{IsSearch};
+    ghost use Rattle.ga_provenance.specs.inner.{IsCellWriteSearchState};
 
     ghost Value = { CellWriteSearch };
 
     ghost view = { λ w. cell_write_search w.lab.now w.node w.cell w.reached.step };
 
-    ghost invariant = { λ w. IsSearch w.lab.now w.node w.cell w.trail w.reached };
+    ghost invariant = { λ w. IsCellWriteSearchState w.lab.now w.node w.cell w.trail w.reached };
 }
 
 impl<'l> CellWrites<'l> {
@@ -185,7 +185,7 @@ impl<'l> CellWrites<'l> {
         ensures { result ≡ cell_write_search lab.now node cell (count_steps node.number lab.now.kept) }
     {
         let step = lab.steps(node);
-        let walk = lab.walk(node, step);
+        let walk = lab.walk_node_from_step(node, step);
         let word = word_in(walk.node(), cell);
         let registers = registers_in(lab, node, &walk);
         CellWrites {
@@ -251,14 +251,14 @@ impl<'l> CellWrites<'l> {
         } = self.reached;
         let place = step - 1;
         let told = lab.made_event_of_step(node, place);
-        self.trail.note(lab, node, step, registers);
+        self.trail.store_walk_registers(lab, node, step, registers);
         let flow = flow_by_trail(lab, &mut self.trail, node, place, NodePart::Ram(self.cell));
         self.reached = Reached {
             step: place,
             registers: self.trail.registers(lab, node, place),
             word: word_before(lab, node, place, TrackedPlace::Ram(self.cell), word),
         };
-        if !is_write_flow(&flow) {
+        if !is_cell_written_by_flow(&flow) {
             return None;
         }
         let made = told?;

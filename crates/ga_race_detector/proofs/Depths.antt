@@ -5,32 +5,32 @@ use Rattle.std.specs.List.{list_any}
 use Rattle.std.proofs.Math.Path.{fun_ext}
 use Rattle.std.proofs.lemmas.Bool.{cases_Bool, cases_lt, or_left, both_ways}
 use Rattle.ga_ports.specs.declared.side.Side.TheVariants.{Right, Down, Left, Up}
-use Rattle.ga_grid.specs.Grid.{neighbour_of}
-use Rattle.ga_event.specs.declared.event.Cause.{Cause}
-use Rattle.ga_event.specs.Touches.{prepend_some, neighbours, observed_by, has_common_node}
-use Rattle.ga_causal.specs.Dependence.{cause_touches, rest_or_all, position_of_step, events_after_rewind}
+use Rattle.ga_grid.specs.Grid.{neighbour_number}
+use Rattle.ga_event.specs.declared.event.EventWithLook.{EventWithLook}
+use Rattle.ga_event.specs.Touches.{prepend_some, neighbours_of_node, nodes_observed_by_event, observes_marked_node}
+use Rattle.ga_causal.specs.Dependence.{event_with_look_touches_node, remaining_events_or_all, position_of_step, events_after_rewind}
 use Rattle.ga_causal.specs.Steps.{count_touching_events}
 use Rattle.ga_causal.proofs.Runs.{kept}
 use Rattle.ga_causal.proofs.LocalHistories.{place-first, place-touched, place-other}
 use Rattle.ga_causal.proofs.Places.{count_touching_events-cons, touching_no}
 use Rattle.ga_races.proofs.Blind.{no_touch}
-use Rattle.ga_race_detector.specs.inner.Writers.{greatest, greater_with, depth, AreLeft, IsFilled, IsTaken}
+use Rattle.ga_race_detector.specs.inner.Writers.{greatest_of_node_numbers, max_with_optional_node_number, event_depth, AreStepsLeftByRollbacks, IsListPaddedWith, IsStepsLeftUpdated}
 use Rattle.ga_race_detector.specs.declared.left.StepsLeft.{StepsLeft}
 
 -- ---- the greatest of some nodes
 
-greatest_some : (known : ℕ → ℕ) (at : Option ℕ) (ns : List ℕ) → greatest known (prepend_some at ns) ≡ greater_with known at (greatest known ns)
+greatest_some : (known : ℕ → ℕ) (at : Option ℕ) (ns : List ℕ) → greatest_of_node_numbers known (prepend_some at ns) ≡ max_with_optional_node_number known at (greatest_of_node_numbers known ns)
 greatest_some known None ns = refl
 greatest_some known (Some n) ns = refl
 
-pub greatest_beside : (known : ℕ → ℕ) (n : ℕ) → greatest known (neighbours n)
-    ≡ greater_with known (neighbour_of n Right) (greater_with known (neighbour_of n Down) (greater_with known (neighbour_of n Left) (greater_with known (neighbour_of n Up) 0)))
-unfolding neighbours
+pub greatest_beside : (known : ℕ → ℕ) (n : ℕ) → greatest_of_node_numbers known (neighbours_of_node n)
+    ≡ max_with_optional_node_number known (neighbour_number n Right) (max_with_optional_node_number known (neighbour_number n Down) (max_with_optional_node_number known (neighbour_number n Left) (max_with_optional_node_number known (neighbour_number n Up) 0)))
+unfolding neighbours_of_node
 greatest_beside known n =
-    greatest_some known (neighbour_of n Right) _
-    ∙ ap (λ z. greater_with known (neighbour_of n Right) z) (greatest_some known (neighbour_of n Down) _
-    ∙ ap (λ z. greater_with known (neighbour_of n Down) z) (greatest_some known (neighbour_of n Left) _
-    ∙ ap (λ z. greater_with known (neighbour_of n Left) z) (greatest_some known (neighbour_of n Up) [])))
+    greatest_some known (neighbour_number n Right) _
+    ∙ ap (λ z. max_with_optional_node_number known (neighbour_number n Right) z) (greatest_some known (neighbour_number n Down) _
+    ∙ ap (λ z. max_with_optional_node_number known (neighbour_number n Down) z) (greatest_some known (neighbour_number n Left) _
+    ∙ ap (λ z. max_with_optional_node_number known (neighbour_number n Left) z) (greatest_some known (neighbour_number n Up) [])))
 
 -- the nodes whose number is greater
 abbrev pub above : (ℕ → ℕ) → ℕ → ℕ → Bool
@@ -45,94 +45,94 @@ or_max a b k = elim (cases_lt k a) [
   ]
 ]
 
-any_above : (known : ℕ → ℕ) (k : ℕ) (ns : List ℕ) → list_any (above known k) ns ≡ nat_lt k (greatest known ns)
+any_above : (known : ℕ → ℕ) (k : ℕ) (ns : List ℕ) → list_any (above known k) ns ≡ nat_lt k (greatest_of_node_numbers known ns)
 any_above known k [] = sym (le-ltb k 0 (omega arith))
-any_above known k (n ∷ ns) = ap (λ z. nat_lt k (known n) || z) (any_above known k ns) ∙ or_max (known n) (greatest known ns) k
+any_above known k (n ∷ ns) = ap (λ z. nat_lt k (known n) || z) (any_above known k ns) ∙ or_max (known n) (greatest_of_node_numbers known ns) k
 
-greatest_most : (known : ℕ → ℕ) (made : ℕ) (ns : List ℕ) → ((n : ℕ) → known n ≤ made) → greatest known ns ≤ made
+greatest_most : (known : ℕ → ℕ) (made : ℕ) (ns : List ℕ) → ((n : ℕ) → known n ≤ made) → greatest_of_node_numbers known ns ≤ made
 greatest_most known made [] most = omega arith
 greatest_most known made (n ∷ ns) most =
     let a : known n ≤ made = most n in
-    let b : greatest known ns ≤ made = greatest_most known made ns most in
+    let b : greatest_of_node_numbers known ns ≤ made = greatest_most known made ns most in
     omega (arith, a, b)
 
 -- ---- what is kept after marks
 
-kept_met : (marks : ℕ → Bool) (e : Cause) (es : List Cause) → has_common_node marks e ≡ true → kept marks (e ∷ es) ≡ kept (λ n. marks n || cause_touches e n) es
+kept_met : (marks : ℕ → Bool) (e : EventWithLook) (es : List EventWithLook) → observes_marked_node marks e ≡ true → kept marks (e ∷ es) ≡ kept (λ n. marks n || event_with_look_touches_node e n) es
 kept_met marks e es t = rw t refl
 
-kept_free : (marks : ℕ → Bool) (e : Cause) (es : List Cause) → has_common_node marks e ≡ false → kept marks (e ∷ es) ≡ e ∷ kept marks es
+kept_free : (marks : ℕ → Bool) (e : EventWithLook) (es : List EventWithLook) → observes_marked_node marks e ≡ false → kept marks (e ∷ es) ≡ e ∷ kept marks es
 kept_free marks e es f = rw f refl
 
 -- of a marked node nothing is
-none_kept : (m : ℕ) (marks : ℕ → Bool) (es : List Cause) → marks m ≡ true → count_touching_events m (kept marks es) ≡ 0
+none_kept : (m : ℕ) (marks : ℕ → Bool) (es : List EventWithLook) → marks m ≡ true → count_touching_events m (kept marks es) ≡ 0
 none_kept m marks [] on = refl
-none_kept m marks (e ∷ es) on = elim (cases_Bool (has_common_node marks e)) [
-  | inl t ↦ ap (count_touching_events m) (kept_met marks e es t) ∙ none_kept m (λ n. marks n || cause_touches e n) es (or_left (marks m) (cause_touches e m) on)
+none_kept m marks (e ∷ es) on = elim (cases_Bool (observes_marked_node marks e)) [
+  | inl t ↦ ap (count_touching_events m) (kept_met marks e es t) ∙ none_kept m (λ n. marks n || event_with_look_touches_node e n) es (or_left (marks m) (event_with_look_touches_node e m) on)
   | inr f ↦ ap (count_touching_events m) (kept_free marks e es f) ∙ touching_no m e (kept marks es) (no_touch marks e m f on) ∙ none_kept m marks es on
 ]
 
-kept_alike : (a b : ℕ → Bool) (es : List Cause) → ((n : ℕ) → a n ≡ b n) → kept a es ≡ kept b es
+kept_alike : (a b : ℕ → Bool) (es : List EventWithLook) → ((n : ℕ) → a n ≡ b n) → kept a es ≡ kept b es
 kept_alike a b es same = ap (λ (z : ℕ → Bool). kept z es) (fun_ext same)
 
-rest_later : (e : Cause) (es : List Cause) (o : Option ℕ) → rest_or_all (e ∷ es) (option_map suc o) ≡ e ∷ rest_or_all es o
+rest_later : (e : EventWithLook) (es : List EventWithLook) (o : Option ℕ) → remaining_events_or_all (e ∷ es) (option_map suc o) ≡ e ∷ remaining_events_or_all es o
 rest_later e es None = refl
 rest_later e es (Some i) = refl
 
 -- ---- which of the events that come a rollback of step k + 1 of node r leaves
 
-abbrev pub remaining : ℕ → ℕ → (ℕ → ℕ) → ℕ → List Cause → List Cause
+abbrev pub remaining : ℕ → ℕ → (ℕ → ℕ) → ℕ → List EventWithLook → List EventWithLook
 remaining r k known made es = cond (nat_lt k made) (kept (above known k) es) (events_after_rewind es r (suc (k - made)))
 
-remaining_marked : (r k : ℕ) (known : ℕ → ℕ) (made : ℕ) (es : List Cause) → k < made → remaining r k known made es ≡ kept (above known k) es
+remaining_marked : (r k : ℕ) (known : ℕ → ℕ) (made : ℕ) (es : List EventWithLook) → k < made → remaining r k known made es ≡ kept (above known k) es
 remaining_marked r k known made es l = ap (λ (z : Bool). cond z (kept (above known k) es) (events_after_rewind es r (suc (k - made)))) (lt-ltb k made l)
 
-remaining_later : (r k : ℕ) (known : ℕ → ℕ) (made : ℕ) (es : List Cause) → made ≤ k → remaining r k known made es ≡ events_after_rewind es r (suc (k - made))
+remaining_later : (r k : ℕ) (known : ℕ → ℕ) (made : ℕ) (es : List EventWithLook) → made ≤ k → remaining r k known made es ≡ events_after_rewind es r (suc (k - made))
 remaining_later r k known made es l = ap (λ (z : Bool). cond z (kept (above known k) es) (events_after_rewind es r (suc (k - made)))) (le-ltb k made l)
 
 -- the numbers after an event
-abbrev pub IsBehindOne : (ℕ → ℕ) → (ℕ → ℕ) → ℕ → ℕ → Cause → Type 0
-IsBehindOne known next r made e = (n : ℕ) → next n ≡ cond (cause_touches e n) (depth known r made e) (known n)
+abbrev pub IsBehindOne : (ℕ → ℕ) → (ℕ → ℕ) → ℕ → ℕ → EventWithLook → Type 0
+IsBehindOne known next r made e = (n : ℕ) → next n ≡ cond (event_with_look_touches_node e n) (event_depth known r made e) (known n)
 
-depth_own : (known : ℕ → ℕ) (r made : ℕ) (e : Cause) → cause_touches e r ≡ true → depth known r made e ≡ made + 1
-depth_own known r made e t = ap (λ (z : Bool). cond z (made + 1) (greatest known (observed_by e))) t
+depth_own : (known : ℕ → ℕ) (r made : ℕ) (e : EventWithLook) → event_with_look_touches_node e r ≡ true → event_depth known r made e ≡ made + 1
+depth_own known r made e t = ap (λ (z : Bool). cond z (made + 1) (greatest_of_node_numbers known (nodes_observed_by_event e))) t
 
-depth_other : (known : ℕ → ℕ) (r made : ℕ) (e : Cause) → cause_touches e r ≡ false → depth known r made e ≡ greatest known (observed_by e)
-depth_other known r made e f = ap (λ (z : Bool). cond z (made + 1) (greatest known (observed_by e))) f
+depth_other : (known : ℕ → ℕ) (r made : ℕ) (e : EventWithLook) → event_with_look_touches_node e r ≡ false → event_depth known r made e ≡ greatest_of_node_numbers known (nodes_observed_by_event e)
+depth_other known r made e f = ap (λ (z : Bool). cond z (made + 1) (greatest_of_node_numbers known (nodes_observed_by_event e))) f
 
-one_step : (e : Cause) (r made : ℕ) → cause_touches e r ≡ true → made + cond (cause_touches e r) 1 0 ≡ made + 1
+one_step : (e : EventWithLook) (r made : ℕ) → event_with_look_touches_node e r ≡ true → made + cond (event_with_look_touches_node e r) 1 0 ≡ made + 1
 one_step e r made t = ap (λ (z : Bool). made + cond {A = ℕ} z 1 0) t
 
-no_step : (e : Cause) (r made : ℕ) → cause_touches e r ≡ false → made + cond (cause_touches e r) 1 0 ≡ made
+no_step : (e : EventWithLook) (r made : ℕ) → event_with_look_touches_node e r ≡ false → made + cond (event_with_look_touches_node e r) 1 0 ≡ made
 no_step e r made f = ap (λ (z : Bool). made + cond {A = ℕ} z 1 0) f ∙ (let q : made + 0 ≡ made = omega arith in q)
 
 -- the number of steps of a node that an event is, unless it is removed: 1 or 0
-abbrev more : Bool → Cause → ℕ → ℕ
-more gone e m = cond gone 0 (cond (cause_touches e m) 1 0)
+abbrev more : Bool → EventWithLook → ℕ → ℕ
+more gone e m = cond gone 0 (cond (event_with_look_touches_node e m) 1 0)
 
-drops : (m : ℕ) (gone : Bool) (e : Cause) (x y : ℕ) → gone ≡ true → x ≡ y → x ≡ more gone e m + y
+drops : (m : ℕ) (gone : Bool) (e : EventWithLook) (x y : ℕ) → gone ≡ true → x ≡ y → x ≡ more gone e m + y
 drops m gone e x y t q = q ∙ sym (ap (λ (z : Bool). more z e m + y) t ∙ (let u : 0 + y ≡ y = omega arith in u))
 
-stays : (m : ℕ) (gone : Bool) (e : Cause) (es : List Cause) (y : ℕ) → gone ≡ false → count_touching_events m es ≡ y → count_touching_events m (e ∷ es) ≡ more gone e m + y
-stays m gone e es y f q = count_touching_events-cons m e es ∙ ap (λ (z : ℕ). cond (cause_touches e m) 1 0 + z) q ∙ sym (ap (λ (z : Bool). more z e m + y) f)
+stays : (m : ℕ) (gone : Bool) (e : EventWithLook) (es : List EventWithLook) (y : ℕ) → gone ≡ false → count_touching_events m es ≡ y → count_touching_events m (e ∷ es) ≡ more gone e m + y
+stays m gone e es y f q = count_touching_events-cons m e es ∙ ap (λ (z : ℕ). cond (event_with_look_touches_node e m) 1 0 + z) q ∙ sym (ap (λ (z : Bool). more z e m + y) f)
 
 -- one event more
-pub one_more : (r m k : ℕ) (known next : ℕ → ℕ) (made : ℕ) (e : Cause) (es : List Cause) → known r ≡ made → ((n : ℕ) → known n ≤ made) → IsBehindOne known next r made e
-    → count_touching_events m (remaining r k known made (e ∷ es)) ≡ more (nat_lt k (depth known r made e)) e m + count_touching_events m (remaining r k next (made + cond (cause_touches e r) 1 0) es)
+pub one_more : (r m k : ℕ) (known next : ℕ → ℕ) (made : ℕ) (e : EventWithLook) (es : List EventWithLook) → known r ≡ made → ((n : ℕ) → known n ≤ made) → IsBehindOne known next r made e
+    → count_touching_events m (remaining r k known made (e ∷ es)) ≡ more (nat_lt k (event_depth known r made e)) e m + count_touching_events m (remaining r k next (made + cond (event_with_look_touches_node e r) 1 0) es)
 one_more r m k known next made e es own most is = elim (cases_lt k made) [ inl l ↦ marked_nodes l | inr g ↦ later g ]
   where
     d : ℕ
-    d = depth known r made e
+    d = event_depth known r made e
 
     then : ℕ
-    then = made + cond (cause_touches e r) 1 0
+    then = made + cond (event_with_look_touches_node e r) 1 0
 
     -- where the step came before
     marked_nodes : k < made → count_touching_events m (remaining r k known made (e ∷ es)) ≡ more (nat_lt k d) e m + count_touching_events m (remaining r k next then es)
-    marked_nodes l = elim (cases_Bool (has_common_node (above known k) e)) [ inl t ↦ met t | inr f ↦ free f ]
+    marked_nodes l = elim (cases_Bool (observes_marked_node (above known k) e)) [ inl t ↦ met t | inr f ↦ free f ]
       where
         within : k < then
-        within = elim (cases_Bool (cause_touches e r)) [
+        within = elim (cases_Bool (event_with_look_touches_node e r)) [
           | inl t ↦ (let q = one_step e r made t in omega (arith, q, l))
           | inr f ↦ (let q = no_step e r made f in omega (arith, q, l))
         ]
@@ -140,16 +140,16 @@ one_more r m k known next made e es own most is = elim (cases_lt k made) [ inl l
         after : count_touching_events m (kept (above next k) es) ≡ count_touching_events m (remaining r k next then es)
         after = ap (count_touching_events m) (sym (remaining_marked r k next then es within))
 
-        met : has_common_node (above known k) e ≡ true → count_touching_events m (remaining r k known made (e ∷ es)) ≡ more (nat_lt k d) e m + count_touching_events m (remaining r k next then es)
+        met : observes_marked_node (above known k) e ≡ true → count_touching_events m (remaining r k known made (e ∷ es)) ≡ more (nat_lt k d) e m + count_touching_events m (remaining r k next then es)
         met t =
             drops m (nat_lt k d) e (count_touching_events m (remaining r k known made (e ∷ es))) (count_touching_events m (remaining r k next then es)) deep
             (ap (count_touching_events m) (remaining_marked r k known made (e ∷ es) l ∙ kept_met (above known k) e es t
-            ∙ kept_alike (λ n. above known k n || cause_touches e n) (above next k) es same) ∙ after)
+            ∙ kept_alike (λ n. above known k n || event_with_look_touches_node e n) (above next k) es same) ∙ after)
           where
             deep : nat_lt k d ≡ true
-            deep = elim (cases_Bool (cause_touches e r)) [
+            deep = elim (cases_Bool (event_with_look_touches_node e r)) [
               | inl u ↦ ap (nat_lt k) (depth_own known r made e u) ∙ lt-ltb k (made + 1) (omega arith)
-              | inr f ↦ ap (nat_lt k) (depth_other known r made e f) ∙ sym (any_above known k (observed_by e)) ∙ t
+              | inr f ↦ ap (nat_lt k) (depth_other known r made e f) ∙ sym (any_above known k (nodes_observed_by_event e)) ∙ t
             ]
 
             by_touch : (n : ℕ) (b : Bool) → (nat_lt k (known n) || b) ≡ nat_lt k (cond b d (known n))
@@ -164,86 +164,86 @@ one_more r m k known next made e es own most is = elim (cases_lt k made) [ inl l
                 or_false true = refl
                 or_false false = refl
 
-            same : (n : ℕ) → (above known k n || cause_touches e n) ≡ above next k n
-            same n = by_touch n (cause_touches e n) ∙ ap (nat_lt k) (sym (is n))
+            same : (n : ℕ) → (above known k n || event_with_look_touches_node e n) ≡ above next k n
+            same n = by_touch n (event_with_look_touches_node e n) ∙ ap (nat_lt k) (sym (is n))
 
-        free : has_common_node (above known k) e ≡ false → count_touching_events m (remaining r k known made (e ∷ es)) ≡ more (nat_lt k d) e m + count_touching_events m (remaining r k next then es)
+        free : observes_marked_node (above known k) e ≡ false → count_touching_events m (remaining r k known made (e ∷ es)) ≡ more (nat_lt k d) e m + count_touching_events m (remaining r k next then es)
         free f =
             ap (count_touching_events m) (remaining_marked r k known made (e ∷ es) l ∙ kept_free (above known k) e es f)
             ∙ stays m (nat_lt k d) e (kept (above known k) es) (count_touching_events m (remaining r k next then es)) shallow
             (ap (count_touching_events m) (kept_alike (above known k) (above next k) es same) ∙ after)
           where
-            apart : cause_touches e r ≡ false
+            apart : event_with_look_touches_node e r ≡ false
             apart = no_touch (above known k) e r f (ap (nat_lt k) own ∙ lt-ltb k made l)
 
             shallow : nat_lt k d ≡ false
-            shallow = ap (nat_lt k) (depth_other known r made e apart) ∙ sym (any_above known k (observed_by e)) ∙ f
+            shallow = ap (nat_lt k) (depth_other known r made e apart) ∙ sym (any_above known k (nodes_observed_by_event e)) ∙ f
 
-            by_touch : (n : ℕ) (b : Bool) → cause_touches e n ≡ b → nat_lt k (known n) ≡ nat_lt k (cond b d (known n))
+            by_touch : (n : ℕ) (b : Bool) → event_with_look_touches_node e n ≡ b → nat_lt k (known n) ≡ nat_lt k (cond b d (known n))
             by_touch n true t = elim (cases_Bool (above known k n)) [
-              | inl on ↦ absurd (both_ways (cause_touches e n) (no_touch (above known k) e n f on) t)
+              | inl on ↦ absurd (both_ways (event_with_look_touches_node e n) (no_touch (above known k) e n f on) t)
               | inr off ↦ off ∙ sym shallow
             ]
             by_touch n false t = refl
 
             same : (n : ℕ) → above known k n ≡ above next k n
-            same n = by_touch n (cause_touches e n) refl ∙ ap (nat_lt k) (sym (is n))
+            same n = by_touch n (event_with_look_touches_node e n) refl ∙ ap (nat_lt k) (sym (is n))
 
     -- where it comes yet, or is this one
     later : made ≤ k → count_touching_events m (remaining r k known made (e ∷ es)) ≡ more (nat_lt k d) e m + count_touching_events m (remaining r k next then es)
-    later g = elim (cases_Bool (cause_touches e r)) [ inl t ↦ elim (cases_lt made k) [ inl l ↦ past t l | inr h ↦ here t h ] | inr f ↦ other f ]
+    later g = elim (cases_Bool (event_with_look_touches_node e r)) [ inl t ↦ elim (cases_lt made k) [ inl l ↦ past t l | inr h ↦ here t h ] | inr f ↦ other f ]
       where
         -- this one
-        here : cause_touches e r ≡ true → k ≤ made → count_touching_events m (remaining r k known made (e ∷ es)) ≡ more (nat_lt k d) e m + count_touching_events m (remaining r k next then es)
+        here : event_with_look_touches_node e r ≡ true → k ≤ made → count_touching_events m (remaining r k known made (e ∷ es)) ≡ more (nat_lt k d) e m + count_touching_events m (remaining r k next then es)
         here t h =
             drops m (nat_lt k d) e (count_touching_events m (remaining r k known made (e ∷ es))) (count_touching_events m (remaining r k next then es))
             (ap (nat_lt k) (depth_own known r made e t) ∙ lt-ltb k (made + 1) (omega (arith, h)))
             (ap (count_touching_events m) (remaining_later r k known made (e ∷ es) g ∙ ap (λ (z : ℕ). events_after_rewind (e ∷ es) r (suc z)) (let q : k - made ≡ 0 = omega (arith, h) in q)
-            ∙ ap (rest_or_all (e ∷ es)) (place-first e es r t) ∙ kept_alike (cause_touches e) (above next k) es same
+            ∙ ap (remaining_events_or_all (e ∷ es)) (place-first e es r t) ∙ kept_alike (event_with_look_touches_node e) (above next k) es same
             ∙ sym (remaining_marked r k next then es (let q = one_step e r made t in omega (arith, q, h)))))
           where
             by_touch : (n : ℕ) (b : Bool) → b ≡ nat_lt k (cond b d (known n))
             by_touch n true = sym (ap (nat_lt k) (depth_own known r made e t) ∙ lt-ltb k (made + 1) (omega (arith, h)))
             by_touch n false = sym (le-ltb k (known n) (let q : known n ≤ made = most n in omega (arith, q, g)))
 
-            same : (n : ℕ) → cause_touches e n ≡ above next k n
-            same n = by_touch n (cause_touches e n) ∙ ap (nat_lt k) (sym (is n))
+            same : (n : ℕ) → event_with_look_touches_node e n ≡ above next k n
+            same n = by_touch n (event_with_look_touches_node e n) ∙ ap (nat_lt k) (sym (is n))
 
         -- one of its steps before
-        past : cause_touches e r ≡ true → made < k → count_touching_events m (remaining r k known made (e ∷ es)) ≡ more (nat_lt k d) e m + count_touching_events m (remaining r k next then es)
+        past : event_with_look_touches_node e r ≡ true → made < k → count_touching_events m (remaining r k known made (e ∷ es)) ≡ more (nat_lt k d) e m + count_touching_events m (remaining r k next then es)
         past t l =
             let q : then ≡ made + 1 = one_step e r made t in
             ap (count_touching_events m) (remaining_later r k known made (e ∷ es) g ∙ ap (λ (z : ℕ). events_after_rewind (e ∷ es) r (suc z)) (let u : k - made ≡ suc (k - then) = omega (arith, q, l) in u)
-            ∙ ap (rest_or_all (e ∷ es)) (place-touched e es r (k - then) t) ∙ rest_later e es (position_of_step es r (suc (k - then))))
+            ∙ ap (remaining_events_or_all (e ∷ es)) (place-touched e es r (k - then) t) ∙ rest_later e es (position_of_step es r (suc (k - then))))
             ∙ stays m (nat_lt k d) e (events_after_rewind es r (suc (k - then))) (count_touching_events m (remaining r k next then es))
             (ap (nat_lt k) (depth_own known r made e t) ∙ le-ltb k (made + 1) (omega (arith, l)))
             (ap (count_touching_events m) (sym (remaining_later r k next then es (omega (arith, q, l)))))
 
         -- no step of it
-        other : cause_touches e r ≡ false → count_touching_events m (remaining r k known made (e ∷ es)) ≡ more (nat_lt k d) e m + count_touching_events m (remaining r k next then es)
+        other : event_with_look_touches_node e r ≡ false → count_touching_events m (remaining r k known made (e ∷ es)) ≡ more (nat_lt k d) e m + count_touching_events m (remaining r k next then es)
         other f =
             let q : then ≡ made = no_step e r made f in
-            ap (count_touching_events m) (remaining_later r k known made (e ∷ es) g ∙ ap (rest_or_all (e ∷ es)) (place-other e es r (k - made) f) ∙ rest_later e es (position_of_step es r (suc (k - made))))
+            ap (count_touching_events m) (remaining_later r k known made (e ∷ es) g ∙ ap (remaining_events_or_all (e ∷ es)) (place-other e es r (k - made) f) ∙ rest_later e es (position_of_step es r (suc (k - made))))
             ∙ stays m (nat_lt k d) e (events_after_rewind es r (suc (k - made))) (count_touching_events m (remaining r k next then es))
-            (ap (nat_lt k) (depth_other known r made e f) ∙ le-ltb k (greatest known (observed_by e)) (let u = greatest_most known made (observed_by e) most in omega (arith, u, g)))
+            (ap (nat_lt k) (depth_other known r made e f) ∙ le-ltb k (greatest_of_node_numbers known (nodes_observed_by_event e)) (let u = greatest_most known made (nodes_observed_by_event e) most in omega (arith, u, g)))
             (ap (count_touching_events m) (ap (λ (z : ℕ). events_after_rewind es r (suc (k - z))) (sym q) ∙ sym (remaining_later r k next then es (omega (arith, q, g)))))
 
 -- ---- the list, event by event
 
 -- the number of steps of node m that a rollback of step k + 1 of node r leaves
-abbrev pub left_by : List Cause → ℕ → ℕ → ℕ → ℕ
+abbrev pub left_by : List EventWithLook → ℕ → ℕ → ℕ → ℕ
 left_by all r m k = count_touching_events m (events_after_rewind all r (suc k))
 
 -- The list has the steps of node r on which the newest event of node m depends; of the others it is known what remains, except
 -- for the events that come.
-pub record IsGoing (all : List Cause) (r m : ℕ) (known : ℕ → ℕ) (made count : ℕ) (left : List ℕ) (es : List Cause) : Type 0 where
+pub record IsGoing (all : List EventWithLook) (r m : ℕ) (known : ℕ → ℕ) (made count : ℕ) (left : List ℕ) (es : List EventWithLook) : Type 0 where
   pub own : known r ≡ made
   pub most : (n : ℕ) → known n ≤ made
   pub size : length left ≡ known m
   pub each : (k : ℕ) → k < length left → get_or left k 0 ≡ left_by all r m k
   pub rest : (k : ℕ) → known m ≤ k → left_by all r m k ≡ count + count_touching_events m (remaining r k known made es)
 
-pub going_first : (all : List Cause) (r m : ℕ) (known : ℕ → ℕ) → ((n : ℕ) → known n ≡ 0) → IsGoing all r m known 0 0 [] all
+pub going_first : (all : List EventWithLook) (r m : ℕ) (known : ℕ → ℕ) → ((n : ℕ) → known n ≡ 0) → IsGoing all r m known 0 0 [] all
 going_first all r m known none = record {
   own = none r;
   most = λ n. let q : known n ≡ 0 = none n in omega (arith, q);
@@ -252,23 +252,23 @@ going_first all r m known none = record {
   rest = λ k l. sym (ap (count_touching_events m) (remaining_later r k known 0 all (omega arith) ∙ ap (λ (z : ℕ). events_after_rewind all r (suc z)) (let q : k - 0 ≡ k = omega arith in q))) ∙ (let y = count_touching_events m (remaining r k known 0 all) in let q : y ≡ 0 + y = omega arith in q);
 }
 
-pub going_more : (all : List Cause) (r m : ℕ) (known next : ℕ → ℕ) (made count then more_count : ℕ) (left filled : List ℕ) (e : Cause) (es : List Cause)
-    → IsGoing all r m known made count left (e ∷ es) → IsBehindOne known next r made e → IsFilled left filled (next m) count
-    → then ≡ made + cond (cause_touches e r) 1 0 → more_count ≡ count + cond (cause_touches e m) 1 0 → IsGoing all r m next then more_count filled es
+pub going_more : (all : List EventWithLook) (r m : ℕ) (known next : ℕ → ℕ) (made count then more_count : ℕ) (left filled : List ℕ) (e : EventWithLook) (es : List EventWithLook)
+    → IsGoing all r m known made count left (e ∷ es) → IsBehindOne known next r made e → IsListPaddedWith left filled (next m) count
+    → then ≡ made + cond (event_with_look_touches_node e r) 1 0 → more_count ≡ count + cond (event_with_look_touches_node e m) 1 0 → IsGoing all r m next then more_count filled es
 going_more all r m known next made count then more_count left filled e es g is fill steps counts =
     record { own = own; most = most; size = size; each = each; rest = rest }
   where
     d : ℕ
-    d = depth known r made e
+    d = event_depth known r made e
 
-    at_touched : (n : ℕ) → cause_touches e n ≡ true → next n ≡ d
+    at_touched : (n : ℕ) → event_with_look_touches_node e n ≡ true → next n ≡ d
     at_touched n t = is n ∙ ap (λ (z : Bool). cond z d (known n)) t
 
-    at_other : (n : ℕ) → cause_touches e n ≡ false → next n ≡ known n
+    at_other : (n : ℕ) → event_with_look_touches_node e n ≡ false → next n ≡ known n
     at_other n f = is n ∙ ap (λ (z : Bool). cond z d (known n)) f
 
     own : next r ≡ then
-    own = elim (cases_Bool (cause_touches e r)) [
+    own = elim (cases_Bool (event_with_look_touches_node e r)) [
       | inl t ↦ at_touched r t ∙ depth_own known r made e t ∙ sym (steps ∙ one_step e r made t)
       | inr f ↦ at_other r f ∙ g.own ∙ sym (steps ∙ no_step e r made f)
     ]
@@ -277,32 +277,32 @@ going_more all r m known next made count then more_count left filled e es g is f
     no_less = omega (arith, steps)
 
     deepest : d ≤ then
-    deepest = elim (cases_Bool (cause_touches e r)) [
+    deepest = elim (cases_Bool (event_with_look_touches_node e r)) [
       | inl t ↦ (let q = depth_own known r made e t in let u = one_step e r made t in omega (arith, q, u, steps))
-      | inr f ↦ (let q = depth_other known r made e f in let u = greatest_most known made (observed_by e) g.most in omega (arith, q, u, steps))
+      | inr f ↦ (let q = depth_other known r made e f in let u = greatest_most known made (nodes_observed_by_event e) g.most in omega (arith, q, u, steps))
     ]
 
     most : (n : ℕ) → next n ≤ then
-    most n = elim (cases_Bool (cause_touches e n)) [
+    most n = elim (cases_Bool (event_with_look_touches_node e n)) [
       | inl t ↦ (let q = at_touched n t in let u = deepest in omega (arith, q, u))
       | inr f ↦ (let q = at_other n f in let u : known n ≤ made = g.most n in let v = no_less in omega (arith, q, u, v))
     ]
 
     -- it sees a node that it touches
-    seen : (n : ℕ) → cause_touches e n ≡ true → known n ≤ d
-    seen n t = elim (cases_Bool (cause_touches e r)) [
+    seen : (n : ℕ) → event_with_look_touches_node e n ≡ true → known n ≤ d
+    seen n t = elim (cases_Bool (event_with_look_touches_node e r)) [
       | inl u ↦ (let q = depth_own known r made e u in let v : known n ≤ made = g.most n in omega (arith, q, v))
-      | inr f ↦ elim (cases_lt (greatest known (observed_by e)) (known n)) [
-        | inl l ↦ absurd (both_ways (cause_touches e n)
-            (no_touch (above known (greatest known (observed_by e))) e n
-            (any_above known (greatest known (observed_by e)) (observed_by e) ∙ le-ltb (greatest known (observed_by e)) (greatest known (observed_by e)) (omega arith))
-            (lt-ltb (greatest known (observed_by e)) (known n) l)) t)
+      | inr f ↦ elim (cases_lt (greatest_of_node_numbers known (nodes_observed_by_event e)) (known n)) [
+        | inl l ↦ absurd (both_ways (event_with_look_touches_node e n)
+            (no_touch (above known (greatest_of_node_numbers known (nodes_observed_by_event e))) e n
+            (any_above known (greatest_of_node_numbers known (nodes_observed_by_event e)) (nodes_observed_by_event e) ∙ le-ltb (greatest_of_node_numbers known (nodes_observed_by_event e)) (greatest_of_node_numbers known (nodes_observed_by_event e)) (omega arith))
+            (lt-ltb (greatest_of_node_numbers known (nodes_observed_by_event e)) (known n) l)) t)
         | inr h ↦ (let q = depth_other known r made e f in omega (arith, q, h))
       ]
     ]
 
     grows : (n : ℕ) → known n ≤ next n
-    grows n = elim (cases_Bool (cause_touches e n)) [
+    grows n = elim (cases_Bool (event_with_look_touches_node e n)) [
       | inl t ↦ (let q = at_touched n t in let u = seen n t in omega (arith, q, u))
       | inr f ↦ (let q = at_other n f in omega (arith, q))
     ]
@@ -325,8 +325,8 @@ going_more all r m known next made count then more_count left filled e es g is f
             within : k < next m
             within = (let q = size in omega (arith, q, l))
 
-            touched : cause_touches e m ≡ true
-            touched = elim (cases_Bool (cause_touches e m)) [
+            touched : event_with_look_touches_node e m ≡ true
+            touched = elim (cases_Bool (event_with_look_touches_node e m)) [
               | inl t ↦ t
               | inr f ↦ absurd (let q = at_other m f in let u = within in let v = behind in omega (arith, q, u, v))
             ]
@@ -343,10 +343,10 @@ going_more all r m known next made count then more_count left filled e es g is f
     rest k l =
         let y = count_touching_events m (remaining r k next then es) in
         follows k (let q = grows m in omega (arith, q, l)) ∙ ap (λ (z : ℕ). count + (z + y)) kept_one
-        ∙ (let q : count + (cond (cause_touches e m) 1 0 + y) ≡ more_count + y = omega (arith, counts) in q)
+        ∙ (let q : count + (cond (event_with_look_touches_node e m) 1 0 + y) ≡ more_count + y = omega (arith, counts) in q)
       where
-        kept_one : more (nat_lt k d) e m ≡ cond (cause_touches e m) 1 0
-        kept_one = elim (cases_Bool (cause_touches e m)) [
+        kept_one : more (nat_lt k d) e m ≡ cond (event_with_look_touches_node e m) 1 0
+        kept_one = elim (cases_Bool (event_with_look_touches_node e m)) [
           | inl t ↦ ap (λ (z : Bool). more z e m) (le-ltb k d (let q = at_touched m t in omega (arith, q, l)))
           | inr f ↦ ap (λ (z : Bool). cond {A = ℕ} (nat_lt k d) 0 (cond z 1 0)) f ∙ either (nat_lt k d) ∙ sym (ap (λ (z : Bool). cond {A = ℕ} z 1 0) f)
         ]
@@ -356,23 +356,23 @@ going_more all r m known next made count then more_count left filled e es g is f
             either false = refl
 
 -- as one more event is taken in
-pub going_taken : (all : List Cause) (r m : ℕ) (known next : ℕ → ℕ) (made then : ℕ) (old new : StepsLeft) (e : Cause) (es : List Cause) → old.node.number ≡ m
-    → IsGoing all r m known made old.count old.list.items (e ∷ es) → IsBehindOne known next r made e → IsTaken old new e (depth known r made e)
-    → then ≡ made + cond (cause_touches e r) 1 0 → IsGoing all r m next then new.count new.list.items es
+pub going_taken : (all : List EventWithLook) (r m : ℕ) (known next : ℕ → ℕ) (made then : ℕ) (old new : StepsLeft) (e : EventWithLook) (es : List EventWithLook) → old.node.number ≡ m
+    → IsGoing all r m known made old.count old.list.items (e ∷ es) → IsBehindOne known next r made e → IsStepsLeftUpdated old new e (event_depth known r made e)
+    → then ≡ made + cond (event_with_look_touches_node e r) 1 0 → IsGoing all r m next then new.count new.list.items es
 going_taken all r m known next made then old new e es of g is taken steps =
-    going_more all r m known next made old.count then new.count old.list.items new.list.items e es g is filled steps (taken.count ∙ ap (λ (z : ℕ). old.count + cond {A = ℕ} (cause_touches e z) 1 0) of)
+    going_more all r m known next made old.count then new.count old.list.items new.list.items e es g is filled steps (taken.count ∙ ap (λ (z : ℕ). old.count + cond {A = ℕ} (event_with_look_touches_node e z) 1 0) of)
   where
-    to : (b : Bool) → cause_touches e m ≡ b → cond b (depth known r made e) (length old.list.items) ≡ next m
-    to true t = sym (is m ∙ ap (λ (z : Bool). cond z (depth known r made e) (known m)) t)
-    to false f = g.size ∙ sym (is m ∙ ap (λ (z : Bool). cond z (depth known r made e) (known m)) f)
+    to : (b : Bool) → event_with_look_touches_node e m ≡ b → cond b (event_depth known r made e) (length old.list.items) ≡ next m
+    to true t = sym (is m ∙ ap (λ (z : Bool). cond z (event_depth known r made e) (known m)) t)
+    to false f = g.size ∙ sym (is m ∙ ap (λ (z : Bool). cond z (event_depth known r made e) (known m)) f)
 
-    filled : IsFilled old.list.items new.list.items (next m) old.count
+    filled : IsListPaddedWith old.list.items new.list.items (next m) old.count
     filled =
-        subst (λ (z : ℕ). IsFilled old.list.items new.list.items z old.count)
-        (ap (λ (z : ℕ). cond (cause_touches e z) (depth known r made e) (length old.list.items)) of ∙ to (cause_touches e m) refl) taken.list
+        subst (λ (z : ℕ). IsListPaddedWith old.list.items new.list.items z old.count)
+        (ap (λ (z : ℕ). cond (event_with_look_touches_node e z) (event_depth known r made e) (length old.list.items)) of ∙ to (event_with_look_touches_node e m) refl) taken.list
 
-pub going_last : (all : List Cause) (r m : ℕ) (known : ℕ → ℕ) (made count : ℕ) (left filled : List ℕ) → IsGoing all r m known made count left [] → made ≡ count_touching_events r all
-    → IsFilled left filled made count → AreLeft all r m filled
+pub going_last : (all : List EventWithLook) (r m : ℕ) (known : ℕ → ℕ) (made count : ℕ) (left filled : List ℕ) → IsGoing all r m known made count left [] → made ≡ count_touching_events r all
+    → IsListPaddedWith left filled made count → AreStepsLeftByRollbacks all r m filled
 going_last all r m known made count left filled g all_made fill = record { size = size ∙ all_made; each = each }
   where
     size : length filled ≡ made

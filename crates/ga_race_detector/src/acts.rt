@@ -3,24 +3,24 @@
 ghost use Rattle.std.specs.Prelude.{◌≡◌, ◌≢◌, ◌<◌, ◌+◌, ℕ, true, Some, take, slice_index, length, IfOk, IfErr};
 ghost use Rattle.ga_node.specs.Io.{io_word};
 ghost use Rattle.ga_node.specs.State.{wait_of_code, IsWaitCode};
-ghost use Rattle.ga_grid.specs.Grid.{neighbour_of};
+ghost use Rattle.ga_grid.specs.Grid.{neighbour_number};
 ghost use Rattle.ga_ports.specs.declared.side.Side.{Side};
-ghost use Rattle.ga_grid.specs.Chip.{record_at};
+ghost use Rattle.ga_grid.specs.Chip.{node_record_at};
 ghost use Rattle.ga_event.specs.Apply.{waits_to_write_side, shown_wait_state, shown_neighbour_state, neighbour_states, replay};
 ghost use Rattle.ga_event.specs.Told.{count_steps};
-ghost use Rattle.ga_races.specs.HappensBefore.{causes_of_actions, actions};
-ghost use Rattle.ga_races.specs.Acts.{actions_of_accesses};
-ghost use Rattle.ga_races.specs.inner.{shown_as, is_changed, changed_sides, AreAlike};
-ghost use Rattle.ga_lab.specs.Machine.{State, chip_of, causes_of, earlier_state};
-ghost use Rattle.ga_race_detector.specs.inner.Glances.{StoodSo, AllStood, IsAt, IsActAt, IsMoment, AreMoments};
+ghost use Rattle.ga_races.specs.HappensBefore.{events_with_looks_of_trace_actions, trace_actions_of_events};
+ghost use Rattle.ga_races.specs.Acts.{trace_actions_of_accesses};
+ghost use Rattle.ga_races.specs.inner.{shown_state_number, is_shown_state_changed, sides_of_changed_shown_state, AreActionListsAlike};
+ghost use Rattle.ga_lab.specs.Machine.{MachineState, chip_of_machine, machine_events_with_looks, earlier_state};
+ghost use Rattle.ga_race_detector.specs.inner.Glances.{HadWaitAndSteps, AllNodesHadWaitsAndSteps, IsEventAtPosition, IsAccessOfEventAtPosition, AreEventStepCounts, AreEventsStepCounts};
 
 use crate::adding::add;
-use crate::moments::{StepCounts, first_part, last_part, no_moments};
+use crate::moments::{StepCounts, event_node_or_reader, event_node_or_writer, no_moments};
 use crate::writers::reads_by;
-use ga_event::{Cause, Event};
+use ga_event::{Event, EventWithLook};
 use ga_grid::{NodeId, neighbour};
 use ga_lab::{Lab, LabFault};
-use ga_node::{NeighbourState, Place, SeenNeighbours};
+use ga_node::{NeighbourState, NodePlace, SeenNeighbours};
 use ga_ports::Side;
 use ga_races::{EventAccess, SideSet};
 use ga_word::Word18;
@@ -68,7 +68,7 @@ fn writes_by(wait: u32, side: Side) -> bool
 // What a node whose wait has this number shows on a side: 0 nothing, 1 that it waits to read there, 2 that it waits to write.
 fn shown(wait: u32, side: Side) -> u8
     requires { IsWaitCode wait }
-    ensures { result ≡ shown_as (shown_wait_state (wait_of_code wait) side) }
+    ensures { result ≡ shown_state_number (shown_wait_state (wait_of_code wait) side) }
 {
     if reads_by(wait, side) {
         1
@@ -94,10 +94,10 @@ pub(crate) fn shown_by(code: u32, side: Side) -> NeighbourState
 }
 
 // Whether a node shows something else on a side with the one number of its wait than with the other.
-fn is_changed(before: u32, behind: u32, side: Side) -> bool
+fn is_shown_state_changed(before: u32, behind: u32, side: Side) -> bool
     requires before { IsWaitCode before }
     requires behind { IsWaitCode behind }
-    ensures { result ≡ is_changed (wait_of_code before) (wait_of_code behind) side }
+    ensures { result ≡ is_shown_state_changed (wait_of_code before) (wait_of_code behind) side }
 {
     shown(before, side) != shown(behind, side)
 }
@@ -106,13 +106,13 @@ fn is_changed(before: u32, behind: u32, side: Side) -> bool
 fn differ(before: u32, behind: u32) -> SideSet
     requires before { IsWaitCode before }
     requires behind { IsWaitCode behind }
-    ensures { result ≡ changed_sides (wait_of_code before) (wait_of_code behind) }
+    ensures { result ≡ sides_of_changed_shown_state (wait_of_code before) (wait_of_code behind) }
 {
     SideSet {
-        right: is_changed(before, behind, Side::Right),
-        down: is_changed(before, behind, Side::Down),
-        left: is_changed(before, behind, Side::Left),
-        up: is_changed(before, behind, Side::Up),
+        right: is_shown_state_changed(before, behind, Side::Right),
+        down: is_shown_state_changed(before, behind, Side::Down),
+        left: is_shown_state_changed(before, behind, Side::Left),
+        up: is_shown_state_changed(before, behind, Side::Up),
     }
 }
 
@@ -121,10 +121,10 @@ fn wait_before(lab: &Lab, node: NodeId, at: u32, behind: u32) -> u32
     requires { IsWaitCode behind }
     ensures valid { IsWaitCode result }
     ensures value { (p q : ℕ) → count_steps node.number (take p lab.now.kept) ≡ at → count_steps node.number (take q lab.now.kept) ≡ at + 1 →
-        (record_at (chip_of (earlier_state lab.now q)) node.number).wait ≡ wait_of_code behind →
-        (record_at (chip_of (earlier_state lab.now p)) node.number).wait ≡ wait_of_code result }
+        (node_record_at (chip_of_machine (earlier_state lab.now q)) node.number).wait ≡ wait_of_code behind →
+        (node_record_at (chip_of_machine (earlier_state lab.now p)) node.number).wait ≡ wait_of_code result }
 {
-    match lab.overwritten_value(node, at, Place::Wait) {
+    match lab.overwritten_value(node, at, NodePlace::Wait) {
         Some(before) => before,
         None => behind,
     }
@@ -132,7 +132,7 @@ fn wait_before(lab: &Lab, node: NodeId, at: u32, behind: u32) -> u32
 
 // The number of the current wait of a node.
 fn wait_now(lab: &Lab, node: NodeId) -> u32
-    ensures value { wait_of_code result ≡ (record_at (chip_of lab.now) node.number).wait }
+    ensures value { wait_of_code result ≡ (node_record_at (chip_of_machine lab.now) node.number).wait }
     ensures valid { IsWaitCode result }
 {
     let at = lab.node(node);
@@ -142,7 +142,7 @@ fn wait_now(lab: &Lab, node: NodeId) -> u32
 impl Behind {
     // The current wait and the steps of each node of the lab.
     fn of(lab: &Lab) -> Self
-        ensures { (p : ℕ) → take p lab.now.kept ≡ lab.now.kept → AllStood lab.now p result.waits result.steps }
+        ensures { (p : ℕ) → take p lab.now.kept ≡ lab.now.kept → AllNodesHadWaitsAndSteps lab.now p result.waits result.steps }
     {
         let mut waits = [0u32; 144];
         let mut steps = [0u32; 144];
@@ -186,8 +186,8 @@ impl Behind {
     // The state of a node's neighbour on a side.
     fn beside(&self, node: NodeId, side: Side) -> NeighbourState
         requires { (m : ℕ) → m < 144 → IsWaitCode (slice_index self.now.waits m) }
-        ensures { (s : State) (p : ℕ) → AllStood s p self.now.waits self.now.steps →
-            result ≡ shown_neighbour_state (chip_of (earlier_state s p)) side (neighbour_of node.number side) }
+        ensures { (s : MachineState) (p : ℕ) → AllNodesHadWaitsAndSteps s p self.now.waits self.now.steps →
+            result ≡ shown_neighbour_state (chip_of_machine (earlier_state s p)) side (neighbour_number node.number side) }
     {
         match neighbour(node, side) {
             Some(other) => shown_by(self.wait_at(other), side),
@@ -199,7 +199,7 @@ impl Behind {
     #[tactic(auto, unfolding(ga_event::specs::Apply::neighbour_states))]
     fn seen(&self, node: NodeId) -> SeenNeighbours
         requires { (m : ℕ) → m < 144 → IsWaitCode (slice_index self.now.waits m) }
-        ensures { (s : State) (p : ℕ) → AllStood s p self.now.waits self.now.steps → result ≡ neighbour_states (chip_of (earlier_state s p)) node.number }
+        ensures { (s : MachineState) (p : ℕ) → AllNodesHadWaitsAndSteps s p self.now.waits self.now.steps → result ≡ neighbour_states (chip_of_machine (earlier_state s p)) node.number }
     {
         SeenNeighbours {
             right: self.beside(node, Side::Right),
@@ -212,8 +212,8 @@ impl Behind {
     // The word that a node reads in `io`, if it looks.
     fn word(&self, node: NodeId, look: bool) -> Word18
         requires { (m : ℕ) → m < 144 → IsWaitCode (slice_index self.now.waits m) }
-        ensures { look ≡ true → (s : State) (p : ℕ) → AllStood s p self.now.waits self.now.steps →
-            result ≡ io_word (neighbour_states (chip_of (earlier_state s p)) node.number) }
+        ensures { look ≡ true → (s : MachineState) (p : ℕ) → AllNodesHadWaitsAndSteps s p self.now.waits self.now.steps →
+            result ≡ io_word (neighbour_states (chip_of_machine (earlier_state s p)) node.number) }
     {
         if !look {
             return Word18::from_low_bits(0);
@@ -222,12 +222,12 @@ impl Behind {
     }
 
     // How many steps the nodes of an event had made before it, and the word that it reads in `io` if it looks.
-    fn moment(&self, cause: &Cause) -> StepCounts
+    fn moment(&self, cause: &EventWithLook) -> StepCounts
         requires { (m : ℕ) → m < 144 → IsWaitCode (slice_index self.now.waits m) }
-        ensures { (s : State) (p : ℕ) → AllStood s p self.now.waits self.now.steps → IsMoment s p cause.now result }
+        ensures { (s : MachineState) (p : ℕ) → AllNodesHadWaitsAndSteps s p self.now.waits self.now.steps → AreEventStepCounts s p cause.now result }
     {
-        let node = first_part(cause.event);
-        let other = last_part(cause.event);
+        let node = event_node_or_writer(cause.event);
+        let other = event_node_or_reader(cause.event);
         let first = self.steps_at(node);
         let last = self.steps_at(other);
         let word = self.word(node, cause.look);
@@ -240,10 +240,10 @@ impl Behind {
         requires steps { 0 < slice_index self.old.steps node.number }
         requires valid { IsWaitCode (slice_index self.old.waits node.number) }
         ensures here { (p q : ℕ) →
-            StoodSo lab.now node.number q (slice_index self.old.waits node.number) (slice_index self.old.steps node.number) →
+            HadWaitAndSteps lab.now node.number q (slice_index self.old.waits node.number) (slice_index self.old.steps node.number) →
             count_steps node.number (take q lab.now.kept) ≡ count_steps node.number (take p lab.now.kept) + 1 →
-            StoodSo lab.now node.number p (slice_index self.new.waits node.number) (slice_index self.new.steps node.number) }
-        ensures sides { result ≡ changed_sides (wait_of_code (slice_index self.new.waits node.number)) (wait_of_code (slice_index self.old.waits node.number)) }
+            HadWaitAndSteps lab.now node.number p (slice_index self.new.waits node.number) (slice_index self.new.steps node.number) }
+        ensures sides { result ≡ sides_of_changed_shown_state (wait_of_code (slice_index self.new.waits node.number)) (wait_of_code (slice_index self.old.waits node.number)) }
         ensures waits { (m : ℕ) → m ≢ node.number → slice_index self.new.waits m ≡ slice_index self.old.waits m }
         ensures others { (m : ℕ) → m ≢ node.number → slice_index self.new.steps m ≡ slice_index self.old.steps m }
     {
@@ -256,14 +256,14 @@ impl Behind {
     }
 
     // Walks back over the last event, which is this one, an own event of the node.
-    fn back_own(&mut self, lab: &Lab, cause: Cause, node: NodeId) -> EventAccess
+    fn back_own(&mut self, lab: &Lab, cause: EventWithLook, node: NodeId) -> EventAccess
         requires own { cause.event ≡ Event.Own node }
-        requires replays { replay lab.now.load lab.now.kept ≡ Some (chip_of lab.now) }
-        requires stood { (p : ℕ) × IsAt lab.now p cause × AllStood lab.now (p + 1) self.old.waits self.old.steps }
+        requires replays { replay lab.now.load lab.now.kept ≡ Some (chip_of_machine lab.now) }
+        requires stood { (p : ℕ) × IsEventAtPosition lab.now p cause × AllNodesHadWaitsAndSteps lab.now (p + 1) self.old.waits self.old.steps }
         ensures cause { result.cause ≡ cause }
-        ensures stood { (p : ℕ) → IsAt lab.now p cause → AllStood lab.now (p + 1) self.old.waits self.old.steps →
-            AllStood lab.now p self.new.waits self.new.steps }
-        ensures changes { (p : ℕ) → IsAt lab.now p cause → AllStood lab.now (p + 1) self.old.waits self.old.steps → IsActAt lab.now p result }
+        ensures stood { (p : ℕ) → IsEventAtPosition lab.now p cause → AllNodesHadWaitsAndSteps lab.now (p + 1) self.old.waits self.old.steps →
+            AllNodesHadWaitsAndSteps lab.now p self.new.waits self.new.steps }
+        ensures changes { (p : ℕ) → IsEventAtPosition lab.now p cause → AllNodesHadWaitsAndSteps lab.now (p + 1) self.old.waits self.old.steps → IsAccessOfEventAtPosition lab.now p result }
     {
         let first = self.back(lab, node);
         EventAccess {
@@ -274,14 +274,20 @@ impl Behind {
     }
 
     // Walks back over the last event, which is this one, a pass from the writer to the reader.
-    fn back_pass(&mut self, lab: &Lab, cause: Cause, writer: NodeId, reader: NodeId) -> EventAccess
+    fn back_pass(
+        &mut self,
+        lab: &Lab,
+        cause: EventWithLook,
+        writer: NodeId,
+        reader: NodeId,
+    ) -> EventAccess
         requires pass { (side : Side) × (cause.event ≡ Event.Pass writer reader side) }
-        requires replays { replay lab.now.load lab.now.kept ≡ Some (chip_of lab.now) }
-        requires stood { (p : ℕ) × IsAt lab.now p cause × AllStood lab.now (p + 1) self.old.waits self.old.steps }
+        requires replays { replay lab.now.load lab.now.kept ≡ Some (chip_of_machine lab.now) }
+        requires stood { (p : ℕ) × IsEventAtPosition lab.now p cause × AllNodesHadWaitsAndSteps lab.now (p + 1) self.old.waits self.old.steps }
         ensures cause { result.cause ≡ cause }
-        ensures stood { (p : ℕ) → IsAt lab.now p cause → AllStood lab.now (p + 1) self.old.waits self.old.steps →
-            AllStood lab.now p self.new.waits self.new.steps }
-        ensures changes { (p : ℕ) → IsAt lab.now p cause → AllStood lab.now (p + 1) self.old.waits self.old.steps → IsActAt lab.now p result }
+        ensures stood { (p : ℕ) → IsEventAtPosition lab.now p cause → AllNodesHadWaitsAndSteps lab.now (p + 1) self.old.waits self.old.steps →
+            AllNodesHadWaitsAndSteps lab.now p self.new.waits self.new.steps }
+        ensures changes { (p : ℕ) → IsEventAtPosition lab.now p cause → AllNodesHadWaitsAndSteps lab.now (p + 1) self.old.waits self.old.steps → IsAccessOfEventAtPosition lab.now p result }
     {
         let first = self.back(lab, writer);
         let second = self.back(lab, reader);
@@ -293,13 +299,13 @@ impl Behind {
     }
 
     // Walks back over the last event, which is this one, and returns it with its changes of what neighbours are shown.
-    fn back_by(&mut self, lab: &Lab, cause: Cause) -> EventAccess
-        requires replays { replay lab.now.load lab.now.kept ≡ Some (chip_of lab.now) }
-        requires stood { (p : ℕ) × IsAt lab.now p cause × AllStood lab.now (p + 1) self.old.waits self.old.steps }
+    fn back_by(&mut self, lab: &Lab, cause: EventWithLook) -> EventAccess
+        requires replays { replay lab.now.load lab.now.kept ≡ Some (chip_of_machine lab.now) }
+        requires stood { (p : ℕ) × IsEventAtPosition lab.now p cause × AllNodesHadWaitsAndSteps lab.now (p + 1) self.old.waits self.old.steps }
         ensures cause { result.cause ≡ cause }
-        ensures stood { (p : ℕ) → IsAt lab.now p cause → AllStood lab.now (p + 1) self.old.waits self.old.steps →
-            AllStood lab.now p self.new.waits self.new.steps }
-        ensures changes { (p : ℕ) → IsAt lab.now p cause → AllStood lab.now (p + 1) self.old.waits self.old.steps → IsActAt lab.now p result }
+        ensures stood { (p : ℕ) → IsEventAtPosition lab.now p cause → AllNodesHadWaitsAndSteps lab.now (p + 1) self.old.waits self.old.steps →
+            AllNodesHadWaitsAndSteps lab.now p self.new.waits self.new.steps }
+        ensures changes { (p : ℕ) → IsEventAtPosition lab.now p cause → AllNodesHadWaitsAndSteps lab.now (p + 1) self.old.waits self.old.steps → IsAccessOfEventAtPosition lab.now p result }
     {
         match cause.event {
             Event::Own(node) => self.back_own(lab, cause, node),
@@ -309,7 +315,7 @@ impl Behind {
 }
 
 // The event, with no sides yet on which it changed what is shown.
-fn plain(cause: &Cause) -> EventAccess
+fn plain(cause: &EventWithLook) -> EventAccess
     ensures { result.cause ≡ cause.now }
 {
     EventAccess {
@@ -321,8 +327,8 @@ fn plain(cause: &Cause) -> EventAccess
 
 // The events, each with no sides yet on which it changed what is shown.
 #[tactic(auto, using(crate::proofs::Acting::plain_more, std::proofs::lemmas::List::take_all))]
-fn plain_acts(alloc: Global, causes: &[Cause]) -> Result<Vec<EventAccess>, LabFault>
-    ensures causes { IfOk result (λ acts. causes_of_actions (actions_of_accesses acts.items) ≡ causes.now) }
+fn plain_acts(alloc: Global, causes: &[EventWithLook]) -> Result<Vec<EventAccess>, LabFault>
+    ensures causes { IfOk result (λ acts. events_with_looks_of_trace_actions (trace_actions_of_accesses acts.items) ≡ causes.now) }
     ensures err { IfErr result (λ why. why ≡ LabFault.Memory) }
 {
     let mut acts = match Vec::with_capacity(alloc, causes.len()) {
@@ -344,12 +350,12 @@ fn plain_acts(alloc: Global, causes: &[Cause]) -> Result<Vec<EventAccess>, LabFa
 pub(crate) fn kept_accesses(
     alloc: Global,
     lab: &Lab,
-    causes: &[Cause],
+    causes: &[EventWithLook],
 ) -> Result<KeptAccesses, LabFault>
-    requires all { causes.now ≡ causes_of lab.now }
+    requires all { causes.now ≡ machine_events_with_looks lab.now }
     ensures size { IfOk result (λ acts. length acts.list.items ≡ length causes.now) }
-    ensures alike { IfOk result (λ acts. AreAlike (actions_of_accesses acts.list.items) (actions lab.now.load lab.now.kept)) }
-    ensures moments { IfOk result (λ acts. AreMoments lab.now causes.now acts.moments.items) }
+    ensures alike { IfOk result (λ acts. AreActionListsAlike (trace_actions_of_accesses acts.list.items) (trace_actions_of_events lab.now.load lab.now.kept)) }
+    ensures moments { IfOk result (λ acts. AreEventsStepCounts lab.now causes.now acts.moments.items) }
     ensures err { IfErr result (λ why. why ≡ LabFault.Memory) }
 {
     let _stands = lab.node(NodeId::new(0));

@@ -1,20 +1,20 @@
 //! What a node could have taken in place of the word that it took.
 
 ghost use Rattle.std.specs.Prelude.{◌≡◌, ◌↔◌, ◌+◌, ◌<◌, ◌≤◌, ◌^◌, ℕ, true, false, take, slice_index, Some, Err, IfSome, IfOk, IfErr};
-ghost use Rattle.ga_node.specs.Record.{record_of};
-ghost use Rattle.ga_grid.specs.Chip.{record_at};
+ghost use Rattle.ga_node.specs.Record.{record_of_node};
+ghost use Rattle.ga_grid.specs.Chip.{node_record_at};
 ghost use Rattle.ga_event.specs.Told.{count_steps};
-ghost use Rattle.ga_lab.specs.Machine.{chip_of, causes_of, earlier_state, state_after_rewind, rewind_answer, has_step};
-ghost use Rattle.ga_grid.specs.Grid.{neighbour_of};
+ghost use Rattle.ga_lab.specs.Machine.{chip_of_machine, machine_events_with_looks, earlier_state, state_after_rewind, rewind_answer, has_step};
+ghost use Rattle.ga_grid.specs.Grid.{neighbour_number};
 ghost use Rattle.ga_event.specs.Apply.{replay, waits_to_read_side};
 ghost use Rattle.ga_causal.specs.Dependence.{events_after_rewind};
 ghost use Rattle.ga_causal.specs.Steps.{count_touching_events};
-ghost use Rattle.ga_race_detector.specs.Races.{alternative_word, word_offered_to};
-ghost use Rattle.ga_race_detector.specs.inner.Writers.{posted, word_between};
+ghost use Rattle.ga_race_detector.specs.Races.{alternative_word, word_offered_over_side};
+ghost use Rattle.ga_race_detector.specs.inner.Writers.{posted_word_over_side, word_passed_between};
 
 use ga_event::{is_waiting_to_read, is_waiting_to_write};
 use ga_grid::{NodeId, neighbour};
-use ga_lab::{Lab, LabFault, Made};
+use ga_lab::{Lab, LabFault, MadeEvent};
 use ga_node::Node;
 use ga_ports::Side;
 use ga_rollback::VisitedEntries;
@@ -23,8 +23,8 @@ use ga_rollback::VisitedEntries;
 pub(crate) fn behind(lab: &Lab, steps: &VisitedEntries, node: NodeId) -> Node
     requires { slice_index steps.now node.number ≤ count_steps node.number lab.now.kept }
     ensures value { (place : ℕ) → count_steps node.number (take place lab.now.kept) + slice_index steps.now node.number ≡ count_steps node.number lab.now.kept →
-        record_of result ≡ record_at (chip_of (earlier_state lab.now place)) node.number }
-    ensures replays { (place : ℕ) → replay lab.now.load (take place lab.now.kept) ≡ Some (chip_of (earlier_state lab.now place)) }
+        record_of_node result ≡ node_record_at (chip_of_machine (earlier_state lab.now place)) node.number }
+    ensures replays { (place : ℕ) → replay lab.now.load (take place lab.now.kept) ≡ Some (chip_of_machine (earlier_state lab.now place)) }
 {
     let left = lab.steps(node) - steps.count(node);
     match lab.peek(node, left) {
@@ -34,25 +34,25 @@ pub(crate) fn behind(lab: &Lab, steps: &VisitedEntries, node: NodeId) -> Node
 }
 
 // The word that the writer waits to give the reader over the side, if that waits for it.
-fn word_offered_to(reader: &Node, writer: &Node, side: Side) -> Option<u32>
-    ensures value { result ≡ word_offered_to (record_of reader.now) (record_of writer.now) side }
+fn word_offered_over_side(reader: &Node, writer: &Node, side: Side) -> Option<u32>
+    ensures value { result ≡ word_offered_over_side (record_of_node reader.now) (record_of_node writer.now) side }
     ensures in_range { IfSome result (λ word. word < 2 ^ 18) }
 {
     if is_waiting_to_write(&writer.wait(), side) && is_waiting_to_read(&reader.wait(), side) {
-        Some(writer.d(0))
+        Some(writer.word_of_data_stack(0))
     } else {
         None
     }
 }
 
 // The word of a pass from the writer to the reader.
-fn word_between(made: &Made, writer: NodeId, reader: NodeId) -> Option<u32>
-    ensures value { result ≡ word_between writer.number reader.number made.now }
+fn word_passed_between(made: &MadeEvent, writer: NodeId, reader: NodeId) -> Option<u32>
+    ensures value { result ≡ word_passed_between writer.number reader.number made.now }
     ensures in_range { IfSome result (λ word. word < 2 ^ 18) }
 {
     match made {
-        Made::Own { .. } => None,
-        Made::Pass {
+        MadeEvent::Own { .. } => None,
+        MadeEvent::Pass {
             writer: from,
             reader: to,
             word,
@@ -69,11 +69,11 @@ fn word_between(made: &Made, writer: NodeId, reader: NodeId) -> Option<u32>
 
 // The word that the node waits to write over the side.
 fn posted_now(node: &Node, side: Side) -> Option<u32>
-    ensures value { result ≡ posted (record_of node.now) side }
+    ensures value { result ≡ posted_word_over_side (record_of_node node.now) side }
     ensures in_range { IfSome result (λ word. word < 2 ^ 18) }
 {
     if is_waiting_to_write(&node.wait(), side) {
-        Some(node.d(0))
+        Some(node.word_of_data_stack(0))
     } else {
         None
     }
@@ -82,15 +82,15 @@ fn posted_now(node: &Node, side: Side) -> Option<u32>
 // The word that the node waited to write to its neighbour over the side after `steps` of its steps: that of its next step, if
 // this transferred one there.
 fn posted(lab: &Lab, node: NodeId, steps: u32, side: Side, reader: NodeId) -> Option<u32>
-    requires near { neighbour_of reader.number side ≡ Some node.number }
+    requires near { neighbour_number reader.number side ≡ Some node.number }
     ensures value { (place : ℕ) → count_steps node.number (take place lab.now.kept) ≡ steps →
-        result ≡ posted (record_at (chip_of (earlier_state lab.now place)) node.number) side }
+        result ≡ posted_word_over_side (node_record_at (chip_of_machine (earlier_state lab.now place)) node.number) side }
     ensures in_range { IfSome result (λ word. word < 2 ^ 18) }
 {
     let now = lab.node(node);
     let _many = lab.steps(node);
     match lab.made_event_of_step(node, steps) {
-        Some(made) => word_between(&made, node, reader),
+        Some(made) => word_passed_between(&made, node, reader),
         None => posted_now(now, side),
     }
 }
@@ -103,10 +103,10 @@ pub(crate) fn offered_behind(
     side: Side,
     writer: (NodeId, u32),
 ) -> Option<u32>
-    requires reads { waits_to_read_side (record_at (chip_of (state_after_rewind lab.now step.0.number step.1)) step.0.number).wait side ≡ true }
-    requires near { neighbour_of step.0.number side ≡ Some writer.0.number }
-    requires left { writer.1 ≡ count_touching_events writer.0.number (events_after_rewind (causes_of lab.now) step.0.number step.1) }
-    ensures word { result ≡ alternative_word (chip_of (state_after_rewind lab.now step.0.number step.1)) step.0.number side }
+    requires reads { waits_to_read_side (node_record_at (chip_of_machine (state_after_rewind lab.now step.0.number step.1)) step.0.number).wait side ≡ true }
+    requires near { neighbour_number step.0.number side ≡ Some writer.0.number }
+    requires left { writer.1 ≡ count_touching_events writer.0.number (events_after_rewind (machine_events_with_looks lab.now) step.0.number step.1) }
+    ensures word { result ≡ alternative_word (chip_of_machine (state_after_rewind lab.now step.0.number step.1)) step.0.number side }
     ensures in_range { IfSome result (λ word. word < 2 ^ 18) }
 {
     let _stands = lab.node(step.0);
@@ -125,7 +125,7 @@ pub fn alternative_word(
     step: u32,
     side: Side,
 ) -> Result<Option<u32>, LabFault>
-    ensures word { IfOk result (λ word. word ≡ alternative_word (chip_of (state_after_rewind lab.old node.number step)) node.number side) }
+    ensures word { IfOk result (λ word. word ≡ alternative_word (chip_of_machine (state_after_rewind lab.old node.number step)) node.number side) }
     ensures in_range { IfOk result (λ word. IfSome word (λ it. it < 2 ^ 18)) }
     ensures err { IfErr result (λ why. rewind_answer lab.old node.number step ≡ Err why) }
     ensures refused { (result ≡ Err LabFault.NoStep) ↔ (has_step lab.old node.number step ≡ false) }
@@ -136,7 +136,7 @@ pub fn alternative_word(
             Some(other) => {
                 let reader = behind(lab, &going.steps, node);
                 let writer = behind(lab, &going.steps, other);
-                Ok(word_offered_to(&reader, &writer, side))
+                Ok(word_offered_over_side(&reader, &writer, side))
             }
             None => Ok(None),
         },

@@ -1,13 +1,13 @@
 //! How many steps of a node and of its neighbours a rollback of a step would leave.
 
 ghost use Rattle.std.specs.Prelude.{◌≡◌, ◌<◌, ◌≤◌, ◌-◌, ◌^◌, ℕ, List, length, slice_index, Some, IfOk, IfErr};
-ghost use Rattle.ga_grid.specs.Grid.{neighbour_of};
-ghost use Rattle.ga_event.specs.declared.event.Cause.{Cause};
+ghost use Rattle.ga_grid.specs.Grid.{neighbour_number};
+ghost use Rattle.ga_event.specs.declared.event.EventWithLook.{EventWithLook};
 ghost use Rattle.ga_causal.specs.Steps.{count_touching_events};
-ghost use Rattle.ga_race_detector.specs.inner.Glances.{around_over, lists_over, IsAround, AreAround};
+ghost use Rattle.ga_race_detector.specs.inner.Glances.{kept_steps_of_neighbour, side_steps_left_list, IsStepsLeftAround, AreStepsLeftNearby};
 
 use crate::left::{Depths, StepsLeft, with_step};
-use ga_event::Cause;
+use ga_event::EventWithLook;
 use ga_grid::{NodeId, neighbour};
 use ga_lab::LabFault;
 use ga_ports::Side;
@@ -37,7 +37,7 @@ pub(crate) struct StepsLeftNearby {
 impl Around {
     /// How many steps of the neighbour on the side would be left.
     pub(crate) fn over(&self, side: Side) -> u32
-        ensures { result ≡ around_over self.now side }
+        ensures { result ≡ kept_steps_of_neighbour self.now side }
     {
         match side {
             Side::Right => self.right,
@@ -59,7 +59,7 @@ fn number_of(list: &[u32], step: u32) -> u32
 
 // The neighbour on a side, or the node itself where nobody is there.
 fn beside_or(node: NodeId, side: Side) -> NodeId
-    ensures { (m : ℕ) → neighbour_of node.number side ≡ Some m → result.number ≡ m }
+    ensures { (m : ℕ) → neighbour_number node.number side ≡ Some m → result.number ≡ m }
 {
     match neighbour(node, side) {
         Some(other) => other,
@@ -81,12 +81,12 @@ struct Sweep {
 impl Sweep {
     ghost use Rattle.std.specs.Prelude.{◌≡◌, OnOk, IfOk, IfErr};
     ghost use Rattle.ga_ports.specs.declared.side.Side.{Side};
-    ghost use Rattle.ga_race_detector.specs.inner.Writers.{IsTaken, IsFilled};
-    ghost use Rattle.ga_race_detector.specs.inner.Glances.{sweep_over, lists_over, AreFirst, AreTaken, AreFew};
+    ghost use Rattle.ga_race_detector.specs.inner.Writers.{IsStepsLeftUpdated, IsListPaddedWith};
+    ghost use Rattle.ga_race_detector.specs.inner.Glances.{sweep_steps_left_on_side, side_steps_left_list, IsEmptySweep, IsEventAddedToSweep, HasRoomInStepCounts};
 
     // What is known of a node and its neighbours where there was no event.
     fn none(alloc: Global, node: NodeId) -> Self
-        ensures { AreFirst node result }
+        ensures { IsEmptySweep node result }
     {
         let right = beside_or(node, Side::Right);
         let down = beside_or(node, Side::Down);
@@ -103,11 +103,11 @@ impl Sweep {
 
     // Takes in an event for the node and for the sides right and down.
     #[inline(always)]
-    fn take_first(&mut self, cause: &Cause, depth: u32) -> Result<(), LabFault>
-        requires { AreFew self.old }
-        ensures here { OnOk result (IsTaken self.old.here self.new.here cause.now depth) }
-        ensures right { OnOk result (IsTaken self.old.right self.new.right cause.now depth) }
-        ensures down { OnOk result (IsTaken self.old.down self.new.down cause.now depth) }
+    fn take_first(&mut self, cause: &EventWithLook, depth: u32) -> Result<(), LabFault>
+        requires { HasRoomInStepCounts self.old }
+        ensures here { OnOk result (IsStepsLeftUpdated self.old.here self.new.here cause.now depth) }
+        ensures right { OnOk result (IsStepsLeftUpdated self.old.right self.new.right cause.now depth) }
+        ensures down { OnOk result (IsStepsLeftUpdated self.old.down self.new.down cause.now depth) }
         ensures left { OnOk result (self.new.left ≡ self.old.left) }
         ensures up { OnOk result (self.new.up ≡ self.old.up) }
         ensures err { IfErr result (λ why. why ≡ LabFault.Memory) }
@@ -119,9 +119,9 @@ impl Sweep {
 
     // Adds an event of this depth for the node and all its sides.
     #[inline(always)]
-    fn take(&mut self, cause: &Cause, depth: u32) -> Result<(), LabFault>
-        requires { AreFew self.old }
-        ensures ok { OnOk result (AreTaken self.old self.new cause.now depth) }
+    fn take(&mut self, cause: &EventWithLook, depth: u32) -> Result<(), LabFault>
+        requires { HasRoomInStepCounts self.old }
+        ensures ok { OnOk result (IsEventAddedToSweep self.old self.new cause.now depth) }
         ensures err { IfErr result (λ why. why ≡ LabFault.Memory) }
     {
         self.take_first(cause, depth)?;
@@ -131,9 +131,9 @@ impl Sweep {
 
     // The lists after the last event, where the node whose steps are rolled back made `made` steps.
     fn end(self, made: u32) -> Result<StepsLeftNearby, LabFault>
-        ensures here { IfOk result (λ lists. IsFilled self.here.list.items lists.node.items made self.here.count) }
+        ensures here { IfOk result (λ lists. IsListPaddedWith self.here.list.items lists.node.items made self.here.count) }
         ensures beside { IfOk result (λ lists. (side : Side) →
-            IsFilled (sweep_over self side).list.items (lists_over lists side) made (sweep_over self side).count) }
+            IsListPaddedWith (sweep_steps_left_on_side self side).list.items (side_steps_left_list lists side) made (sweep_steps_left_on_side self side).count) }
         ensures err { IfErr result (λ why. why ≡ LabFault.Memory) }
     {
         let Sweep {
@@ -166,12 +166,12 @@ impl StepsLeftNearby {
     /// `Memory` alone.
     pub(crate) fn of(
         alloc: Global,
-        causes: &[Cause],
+        causes: &[EventWithLook],
         from: NodeId,
         node: NodeId,
     ) -> Result<Self, LabFault>
         requires few { length causes.now < 2 ^ 32 }
-        ensures left { IfOk result (λ lists. AreAround causes.now from.number node.number lists) }
+        ensures left { IfOk result (λ lists. AreStepsLeftNearby causes.now from.number node.number lists) }
         ensures err { IfErr result (λ why. why ≡ LabFault.Memory) }
     {
         let mut sweep = Sweep::none(alloc, node);
@@ -188,7 +188,7 @@ impl StepsLeftNearby {
 
     // The list of how many steps of the neighbour on a side would be left.
     fn over(&self, side: Side) -> &[u32]
-        ensures { result.now ≡ lists_over self.now side }
+        ensures { result.now ≡ side_steps_left_list self.now side }
     {
         match side {
             Side::Right => self.right.as_slice(),
@@ -201,7 +201,7 @@ impl StepsLeftNearby {
     // How many steps of the neighbour on a side a rollback of this step would leave.
     fn number_over(&self, side: Side, step: u32) -> u32
         requires { 0 < step }
-        ensures { result ≡ slice_index (lists_over self.now side) (step - 1) }
+        ensures { result ≡ slice_index (side_steps_left_list self.now side) (step - 1) }
     {
         let list = self.over(side);
         number_of(list, step)
@@ -211,8 +211,8 @@ impl StepsLeftNearby {
     #[tactic(auto, using(crate::proofs::Lefts::around_at, crate::proofs::Lefts::by_sides))]
     pub(crate) fn at(&self, step: u32) -> Around
         requires { 0 < step }
-        ensures { (causes : List Cause) (from node : ℕ) → AreAround causes from node self.now → step ≤ count_touching_events from causes →
-            IsAround causes from step node result }
+        ensures { (causes : List EventWithLook) (from node : ℕ) → AreStepsLeftNearby causes from node self.now → step ≤ count_touching_events from causes →
+            IsStepsLeftAround causes from step node result }
     {
         let list = self.node.as_slice();
         let node = number_of(list, step);

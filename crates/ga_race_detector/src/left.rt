@@ -1,14 +1,14 @@
 //! How many steps of a node a rollback of a step of another would leave: for each of these steps, by one pass over the history.
 
 ghost use Rattle.std.specs.Prelude.{◌≡◌, ◌<◌, ◌+◌, [], ◌^◌, ℕ, length, if◌then◌else◌, Some, IfOk, OnOk, IfErr};
-ghost use Rattle.ga_causal.specs.Dependence.{cause_touches};
-ghost use Rattle.ga_grid.specs.Grid.{neighbour_of};
-ghost use Rattle.ga_race_detector.specs.inner.Writers.{AreLeft, IsLeftBehind, IsFilled};
+ghost use Rattle.ga_causal.specs.Dependence.{event_with_look_touches_node};
+ghost use Rattle.ga_grid.specs.Grid.{neighbour_number};
+ghost use Rattle.ga_race_detector.specs.inner.Writers.{AreStepsLeftByRollbacks, AreStepsLeftByFirstRollbacks, IsListPaddedWith};
 
 use crate::adding::add;
 use crate::writers::Writers;
-use ga_event::{Cause, Event, touches};
-use ga_grid::{CHIP_NODES, NodeId, neighbour};
+use ga_event::{Event, EventWithLook, touches};
+use ga_grid::{CHIP_NODE_COUNT, NodeId, neighbour};
 use ga_lab::LabFault;
 use ga_ports::Side;
 use std::alloc::Global;
@@ -32,17 +32,17 @@ impl Model for Depths {
 
 impl Depths {
     ghost use Rattle.std.specs.Prelude.{◌≡◌, ◌<◌, ◌+◌, ◌==◌, ◌^◌, ℕ, slice_index, if◌then◌else◌};
-    ghost use Rattle.ga_grid.specs.Grid.{neighbour_of};
-    ghost use Rattle.ga_event.specs.Touches.{neighbours, observed_by};
-    ghost use Rattle.ga_causal.specs.Dependence.{cause_touches};
-    ghost use Rattle.ga_race_detector.specs.inner.Writers.{greatest, greater_with, depth};
+    ghost use Rattle.ga_grid.specs.Grid.{neighbour_number};
+    ghost use Rattle.ga_event.specs.Touches.{neighbours_of_node, nodes_observed_by_event};
+    ghost use Rattle.ga_causal.specs.Dependence.{event_with_look_touches_node};
+    ghost use Rattle.ga_race_detector.specs.inner.Writers.{greatest_of_node_numbers, max_with_optional_node_number, event_depth};
 
     /// The numbers where nothing was made: 0 for each node.
     pub(crate) fn none() -> Self
         ensures { (n : ℕ) → slice_index result n ≡ 0 }
     {
         Depths {
-            steps: [0; CHIP_NODES],
+            steps: [0; CHIP_NODE_COUNT],
         }
     }
 
@@ -55,9 +55,9 @@ impl Depths {
 
     /// On how many steps of `node` an event depends, or which it is, where `made` of them were made before it.
     #[inline(always)]
-    pub(crate) fn of(&self, cause: &Cause, node: NodeId, made: u32) -> u32
+    pub(crate) fn of(&self, cause: &EventWithLook, node: NodeId, made: u32) -> u32
         requires { made + 1 < 2 ^ 32 }
-        ensures { result ≡ depth (slice_index self.now) node.number made cause.now }
+        ensures { result ≡ event_depth (slice_index self.now) node.number made cause.now }
     {
         if touches(cause.event, node) {
             made + 1
@@ -67,9 +67,9 @@ impl Depths {
     }
 
     // The greatest of the numbers of the nodes that an event sees.
-    #[tactic(auto, unfolding(ga_event::specs::Touches::observed_by))]
-    fn greatest(&self, cause: &Cause) -> u32
-        ensures { result ≡ greatest (slice_index self.now) (observed_by cause.now) }
+    #[tactic(auto, unfolding(ga_event::specs::Touches::nodes_observed_by_event))]
+    fn greatest(&self, cause: &EventWithLook) -> u32
+        ensures { result ≡ greatest_of_node_numbers (slice_index self.now) (nodes_observed_by_event cause.now) }
     {
         match cause.event {
             Event::Own(node) => {
@@ -87,7 +87,7 @@ impl Depths {
     // The greatest of the numbers of the neighbours of a node.
     #[tactic(auto, using(crate::proofs::Depths::greatest_beside))]
     fn greatest_beside(&self, node: NodeId) -> u32
-        ensures { result ≡ greatest (slice_index self.now) (neighbours node.number) }
+        ensures { result ≡ greatest_of_node_numbers (slice_index self.now) (neighbours_of_node node.number) }
     {
         let up = self.greater_over(node, Side::Up, 0);
         let left = self.greater_over(node, Side::Left, up);
@@ -97,7 +97,7 @@ impl Depths {
 
     // The greater of a number and that of the neighbour on a side.
     fn greater_over(&self, node: NodeId, side: Side, number: u32) -> u32
-        ensures { result ≡ greater_with (slice_index self.now) (neighbour_of node.number side) number }
+        ensures { result ≡ max_with_optional_node_number (slice_index self.now) (neighbour_number node.number side) number }
     {
         match neighbour(node, side) {
             Some(other) => self.at(other).max(number),
@@ -107,8 +107,8 @@ impl Depths {
 
     /// Puts a number to the nodes that an event touches.
     #[inline(always)]
-    pub(crate) fn put(&mut self, cause: &Cause, steps: u32)
-        ensures { (n : ℕ) → slice_index self.new n ≡ (if cause_touches cause.now n then steps else slice_index self.old n) }
+    pub(crate) fn put(&mut self, cause: &EventWithLook, steps: u32)
+        ensures { (n : ℕ) → slice_index self.new n ≡ (if event_with_look_touches_node cause.now n then steps else slice_index self.old n) }
     {
         match cause.event {
             Event::Own(node) => self.put_at(node.index(), steps),
@@ -130,9 +130,9 @@ impl Depths {
 
 /// The number of steps of a node after an event: one more if the event touches the node.
 #[inline(always)]
-pub(crate) fn with_step(steps: u32, cause: &Cause, node: NodeId) -> u32
+pub(crate) fn with_step(steps: u32, cause: &EventWithLook, node: NodeId) -> u32
     requires { steps + 1 < 2 ^ 32 }
-    ensures { result ≡ steps + (if cause_touches cause.now node.number then 1 else 0) }
+    ensures { result ≡ steps + (if event_with_look_touches_node cause.now node.number then 1 else 0) }
 {
     if touches(cause.event, node) {
         steps + 1
@@ -143,7 +143,7 @@ pub(crate) fn with_step(steps: u32, cause: &Cause, node: NodeId) -> u32
 
 // Fills a list up to a length with a number.
 fn fill(list: &mut Vec<u32>, to: u32, number: u32) -> Result<(), LabFault>
-    ensures ok { OnOk result (IsFilled list.old.items list.new.items to number) }
+    ensures ok { OnOk result (IsListPaddedWith list.old.items list.new.items to number) }
     ensures err { IfErr result (λ why. why ≡ LabFault.Memory) }
 {
     'fill: for _place in list.len()..to as usize {
@@ -162,7 +162,7 @@ pub(crate) struct StepsLeft {
 
 impl StepsLeft {
     ghost use Rattle.std.specs.Prelude.{◌≡◌, ◌<◌, ◌+◌, [], ◌^◌, OnOk, IfOk, IfErr};
-    ghost use Rattle.ga_race_detector.specs.inner.Writers.{IsFilled, IsTaken};
+    ghost use Rattle.ga_race_detector.specs.inner.Writers.{IsListPaddedWith, IsStepsLeftUpdated};
 
     /// What is known of a node where there was no event: no step of it, and an empty list.
     pub(crate) fn none(alloc: Global, node: NodeId) -> Self
@@ -183,9 +183,9 @@ impl StepsLeft {
     /// `Memory` alone.
     #[inline(always)]
     #[tactic(auto, using(crate::proofs::Lefts::passed_by, crate::proofs::Lefts::taken_by))]
-    pub(crate) fn take(&mut self, cause: &Cause, depth: u32) -> Result<(), LabFault>
+    pub(crate) fn take(&mut self, cause: &EventWithLook, depth: u32) -> Result<(), LabFault>
         requires { self.old.count + 1 < 2 ^ 32 }
-        ensures ok { OnOk result (IsTaken self.old self.new cause.now depth) }
+        ensures ok { OnOk result (IsStepsLeftUpdated self.old self.new cause.now depth) }
         ensures err { IfErr result (λ why. why ≡ LabFault.Memory) }
     {
         if !touches(cause.event, self.node) {
@@ -201,7 +201,7 @@ impl StepsLeft {
     /// # Errors
     /// `Memory` alone.
     pub(crate) fn end(self, made: u32) -> Result<Vec<u32>, LabFault>
-        ensures ok { IfOk result (λ list. IsFilled self.list.items list.items made self.count) }
+        ensures ok { IfOk result (λ list. IsListPaddedWith self.list.items list.items made self.count) }
         ensures err { IfErr result (λ why. why ≡ LabFault.Memory) }
     {
         let StepsLeft { count, list, .. } = self;
@@ -218,12 +218,12 @@ impl StepsLeft {
 /// `Memory` alone.
 pub(crate) fn steps_left(
     alloc: Global,
-    causes: &[Cause],
+    causes: &[EventWithLook],
     node: NodeId,
     other: NodeId,
 ) -> Result<Vec<u32>, LabFault>
     requires few { length causes.now < 2 ^ 32 }
-    ensures left { IfOk result (λ left. AreLeft causes.now node.number other.number left.items) }
+    ensures left { IfOk result (λ left. AreStepsLeftByRollbacks causes.now node.number other.number left.items) }
     ensures err { IfErr result (λ why. why ≡ LabFault.Memory) }
 {
     let mut left = StepsLeft::none(alloc, other);
@@ -241,13 +241,13 @@ pub(crate) fn steps_left(
 // How many steps of the neighbour on a side a rollback of each step of a node would leave, if requested; else an empty list.
 fn steps_over(
     alloc: Global,
-    causes: &[Cause],
+    causes: &[EventWithLook],
     node: NodeId,
     side: Side,
     is_asked: bool,
 ) -> Result<Vec<u32>, LabFault>
     requires few { length causes.now < 2 ^ 32 }
-    ensures left { IfOk result (λ left. (m : ℕ) → neighbour_of node.number side ≡ Some m → IsLeftBehind causes.now node.number m left.items) }
+    ensures left { IfOk result (λ left. (m : ℕ) → neighbour_number node.number side ≡ Some m → AreStepsLeftByFirstRollbacks causes.now node.number m left.items) }
     ensures err { IfErr result (λ why. why ≡ LabFault.Memory) }
 {
     match neighbour(node, side) {
@@ -267,11 +267,11 @@ pub(crate) struct LeftBeside {
 
 impl LeftBeside {
     ghost use Rattle.std.specs.Prelude.{◌≡◌, ◌<◌, ◌^◌, ℕ, List, length, Some, IfOk, IfErr, IfSome};
-    ghost use Rattle.ga_grid.specs.Grid.{neighbour_of};
-    ghost use Rattle.ga_event.specs.declared.event.Cause.{Cause};
+    ghost use Rattle.ga_grid.specs.Grid.{neighbour_number};
+    ghost use Rattle.ga_event.specs.declared.event.EventWithLook.{EventWithLook};
     ghost use Rattle.ga_causal.specs.Dependence.{events_after_rewind};
     ghost use Rattle.ga_causal.specs.Steps.{count_touching_events};
-    ghost use Rattle.ga_race_detector.specs.inner.Writers.{left_over, IsLeftBeside};
+    ghost use Rattle.ga_race_detector.specs.inner.Writers.{neighbour_steps_left_list, AreNeighbourStepsLeft};
 
     /// How many steps of each neighbour that ever waited to write to the node a rollback of each step of the node would leave.
     /// Of none, if these neighbours are fewer than two. Takes memory linear in the number of these steps, and for each
@@ -281,12 +281,12 @@ impl LeftBeside {
     /// `Memory` alone.
     pub(crate) fn of(
         alloc: Global,
-        causes: &[Cause],
+        causes: &[EventWithLook],
         node: NodeId,
         writers: &Writers,
     ) -> Result<Self, LabFault>
         requires few { length causes.now < 2 ^ 32 }
-        ensures left { IfOk result (λ beside. IsLeftBeside causes.now node.number beside) }
+        ensures left { IfOk result (λ beside. AreNeighbourStepsLeft causes.now node.number beside) }
         ensures err { IfErr result (λ why. why ≡ LabFault.Memory) }
     {
         let are_two = writers.are_two();
@@ -324,7 +324,7 @@ impl LeftBeside {
 
     // The list of how many steps of the neighbour on a side would be left.
     fn over(&self, side: Side) -> &[u32]
-        ensures { result.now ≡ left_over self.now side }
+        ensures { result.now ≡ neighbour_steps_left_list self.now side }
     {
         match side {
             Side::Right => self.right.as_slice(),
@@ -337,7 +337,7 @@ impl LeftBeside {
     /// How many steps of the neighbour on the side a rollback of the step would leave, if it is known.
     pub(crate) fn at(&self, side: Side, step: u32) -> Option<u32>
         requires { 0 < step }
-        ensures { IfSome result (λ many. (causes : List Cause) (n m : ℕ) → IsLeftBeside causes n self.now → neighbour_of n side ≡ Some m →
+        ensures { IfSome result (λ many. (causes : List EventWithLook) (n m : ℕ) → AreNeighbourStepsLeft causes n self.now → neighbour_number n side ≡ Some m →
             many ≡ count_touching_events m (events_after_rewind causes n step)) }
     {
         let list = self.over(side);

@@ -5,14 +5,14 @@ ghost use Rattle.std.specs.List.{All};
 ghost use Rattle.ga_event.specs.Apply.{replay};
 ghost use Rattle.ga_event.specs.Told.{count_steps};
 ghost use Rattle.ga_causal.specs.Dependence.{event_at};
-ghost use Rattle.ga_lab.specs.Machine.{State, chip_of, causes_of};
+ghost use Rattle.ga_lab.specs.Machine.{MachineState, chip_of_machine, machine_events_with_looks};
 ghost use Rattle.ga_race_detector.specs.declared.readings.LookRace.{LookRace};
 ghost use Rattle.ga_race_detector.specs.Readings.{IsReportedLookRace};
-ghost use Rattle.ga_race_detector.specs.inner.Glances.{IsMoment, AreMoments, IsAtNear, part_beside, taken_of, IsGlance, IsGlanced, IsShownBy, AreGlanced, HangTogether};
+ghost use Rattle.ga_race_detector.specs.inner.Glances.{AreEventStepCounts, AreEventsStepCounts, IsLookRaceAtPositions, neighbour_node_of_event, rollback_step_of_look_change, IsLookChangeAtPositions, IsRequestedLookChange, IsRacingPairListed, AreReportedPairsListed, HaveSameRollbackNodes};
 
 use crate::adding::add;
 use crate::moments::{StepCounts, moment_at};
-use ga_event::{Cause, Event};
+use ga_event::{Event, EventWithLook};
 use ga_grid::NodeId;
 use ga_lab::{Lab, LabFault};
 use ga_races::{RacingPair, are_neighbours};
@@ -39,7 +39,7 @@ pub(crate) struct LookChange {
 impl LookChange {
     /// The step that a rollback removes for the look to read another word: its own if it came first, else the change.
     pub(crate) fn taken(&self) -> (NodeId, u32)
-        ensures { result ≡ taken_of self.now }
+        ensures { result ≡ rollback_step_of_look_change self.now }
     {
         if self.is_look_first {
             (self.node, self.step)
@@ -50,14 +50,14 @@ impl LookChange {
 
     /// Whether both looks are of one node, and the removed steps for both are of one node.
     pub(crate) fn is_related(&self, other: &LookChange) -> bool
-        ensures { result ≡ true → HangTogether self.now other.now }
+        ensures { result ≡ true → HaveSameRollbackNodes self.now other.now }
     {
         self.node.number == other.node.number && self.taken().0.number == other.taken().0.number
     }
 }
 
 // The node of a look.
-fn looking(cause: &Cause) -> Option<NodeId>
+fn looking(cause: &EventWithLook) -> Option<NodeId>
     ensures node { IfSome result (λ node. cause.now ≡ record { event = Event.Own node; look = true }) }
     ensures found { (node : NodeId) → cause.now ≡ record { event = Event.Own node; look = true } → result ≡ Some node }
 {
@@ -68,8 +68,8 @@ fn looking(cause: &Cause) -> Option<NodeId>
 }
 
 // The node of an event that is a neighbour of another.
-fn part_beside(event: Event, node: NodeId) -> NodeId
-    ensures { result ≡ part_beside event node.number }
+fn neighbour_node_of_event(event: Event, node: NodeId) -> NodeId
+    ensures { result ≡ neighbour_node_of_event event node.number }
 {
     match event {
         Event::Own(own) => own,
@@ -84,9 +84,9 @@ fn part_beside(event: Event, node: NodeId) -> NodeId
 }
 
 // The number of steps that the node of an event which is a neighbour of another had made before the event.
-fn steps_beside(cause: &Cause, moment: &StepCounts, node: NodeId) -> u32
-    ensures { (s : State) (p : ℕ) → IsMoment s p cause.now moment.now →
-        result ≡ count_steps (part_beside cause.now.event node.number).number (take p s.kept) }
+fn steps_beside(cause: &EventWithLook, moment: &StepCounts, node: NodeId) -> u32
+    ensures { (s : MachineState) (p : ℕ) → AreEventStepCounts s p cause.now moment.now →
+        result ≡ count_steps (neighbour_node_of_event cause.now.event node.number).number (take p s.kept) }
 {
     match cause.event {
         Event::Own(_) => moment.first,
@@ -103,18 +103,18 @@ fn steps_beside(cause: &Cause, moment: &StepCounts, node: NodeId) -> u32
 // The look and the change at these places.
 fn glance_of(
     lab: &Lab,
-    causes: &[Cause],
+    causes: &[EventWithLook],
     moments: &[StepCounts],
     near: RacingPair,
 ) -> Option<LookChange>
-    requires all { causes.now ≡ causes_of lab.now }
-    requires moments { AreMoments lab.now causes.now moments.now }
+    requires all { causes.now ≡ machine_events_with_looks lab.now }
+    requires moments { AreEventsStepCounts lab.now causes.now moments.now }
     requires few { length causes.now < 2 ^ 32 }
     requires look { near.look < length causes.now }
     requires change { near.change < length causes.now }
-    ensures is { IfSome result (λ glance. IsGlance lab.now near glance) }
-    ensures found { (node : NodeId) → event_at (causes_of lab.now) near.look ≡ record { event = Event.Own node; look = true } → IsSome result }
-    ensures led { replay lab.now.load lab.now.kept ≡ Some (chip_of lab.now) }
+    ensures is { IfSome result (λ glance. IsLookChangeAtPositions lab.now near glance) }
+    ensures found { (node : NodeId) → event_at (machine_events_with_looks lab.now) near.look ≡ record { event = Event.Own node; look = true } → IsSome result }
+    ensures led { replay lab.now.load lab.now.kept ≡ Some (chip_of_machine lab.now) }
 {
     let _stands = lab.node(NodeId::new(0));
     let look = causes[near.look as usize];
@@ -127,7 +127,7 @@ fn glance_of(
         node,
         step: at.first + 1,
         word: at.word,
-        neighbour: part_beside(change.event, node),
+        neighbour: neighbour_node_of_event(change.event, node),
         change: before + 1,
         is_look_first: near.look < near.change,
     })
@@ -156,17 +156,17 @@ fn is_asked(only: Option<NodeId>, node: NodeId) -> bool
 fn add_near(
     list: &mut Vec<LookChange>,
     lab: &Lab,
-    events: (&[Cause], &[StepCounts]),
+    events: (&[EventWithLook], &[StepCounts]),
     near: RacingPair,
     only: Option<NodeId>,
 ) -> Result<(), LabFault>
-    requires all { events.0.now ≡ causes_of lab.now }
-    requires moments { AreMoments lab.now events.0.now events.1.now }
+    requires all { events.0.now ≡ machine_events_with_looks lab.now }
+    requires moments { AreEventsStepCounts lab.now events.0.now events.1.now }
     requires few { length events.0.now < 2 ^ 32 }
-    requires told { All (IsGlanced lab.now only) list.old.items }
-    ensures told { OnOk result (All (IsGlanced lab.now only) list.new.items) }
+    requires told { All (IsRequestedLookChange lab.now only) list.old.items }
+    ensures told { OnOk result (All (IsRequestedLookChange lab.now only) list.new.items) }
     ensures kept { OnOk result ((glance : LookChange) → Contains list.old.items glance → Contains list.new.items glance) }
-    ensures found { OnOk result ((reading : LookRace) → IsReportedLookRace lab.now only reading → IsAtNear lab.now near reading → IsShownBy lab.now near list.new.items) }
+    ensures found { OnOk result ((reading : LookRace) → IsReportedLookRace lab.now only reading → IsLookRaceAtPositions lab.now near reading → IsRacingPairListed lab.now near list.new.items) }
     ensures err { IfErr result (λ why. why ≡ LabFault.Memory) }
 {
     let (causes, moments) = events;
@@ -186,15 +186,15 @@ fn add_near(
 pub(crate) fn glances_of(
     alloc: Global,
     lab: &Lab,
-    events: (&[Cause], &[StepCounts]),
+    events: (&[EventWithLook], &[StepCounts]),
     nears: &[RacingPair],
     only: Option<NodeId>,
 ) -> Result<Vec<LookChange>, LabFault>
-    requires all { events.0.now ≡ causes_of lab.now }
-    requires moments { AreMoments lab.now events.0.now events.1.now }
+    requires all { events.0.now ≡ machine_events_with_looks lab.now }
+    requires moments { AreEventsStepCounts lab.now events.0.now events.1.now }
     requires few { length events.0.now < 2 ^ 32 }
-    ensures told { IfOk result (λ list. All (IsGlanced lab.now only) list.items) }
-    ensures found { IfOk result (λ list. AreGlanced lab.now only nears.now list.items) }
+    ensures told { IfOk result (λ list. All (IsRequestedLookChange lab.now only) list.items) }
+    ensures found { IfOk result (λ list. AreReportedPairsListed lab.now only nears.now list.items) }
     ensures err { IfErr result (λ why. why ≡ LabFault.Memory) }
 {
     let mut list = Vec::new(alloc);

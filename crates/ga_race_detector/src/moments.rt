@@ -1,7 +1,7 @@
 //! The state before each event of the history.
 
 ghost use Rattle.std.specs.Prelude.{◌≡◌, ◌<◌, length, slice_index_or, IfOk, IfErr};
-ghost use Rattle.ga_race_detector.specs.inner.Glances.{first_part, last_part, no_moment};
+ghost use Rattle.ga_race_detector.specs.inner.Glances.{event_node_or_writer, event_node_or_reader, zero_step_counts};
 
 use crate::adding::add;
 use ga_event::Event;
@@ -22,8 +22,8 @@ pub(crate) struct StepCounts {
 }
 
 /// The node of an event, of a pass its writer.
-pub(crate) fn first_part(event: Event) -> NodeId
-    ensures { result ≡ first_part event }
+pub(crate) fn event_node_or_writer(event: Event) -> NodeId
+    ensures { result ≡ event_node_or_writer event }
 {
     match event {
         Event::Own(node) => node,
@@ -32,8 +32,8 @@ pub(crate) fn first_part(event: Event) -> NodeId
 }
 
 /// The node of an event, of a pass its reader.
-pub(crate) fn last_part(event: Event) -> NodeId
-    ensures { result ≡ last_part event }
+pub(crate) fn event_node_or_reader(event: Event) -> NodeId
+    ensures { result ≡ event_node_or_reader event }
 {
     match event {
         Event::Own(node) => node,
@@ -44,7 +44,7 @@ pub(crate) fn last_part(event: Event) -> NodeId
 /// The moment of an event.
 pub(crate) fn moment_at(moments: &[StepCounts], place: usize) -> StepCounts
     requires { place < length moments.now }
-    ensures { result ≡ slice_index_or moments.now place no_moment }
+    ensures { result ≡ slice_index_or moments.now place zero_step_counts }
 {
     moments[place]
 }

@@ -1,11 +1,11 @@
 //! Steps that could have come out otherwise.
 
 ghost use Rattle.std.specs.Prelude.{◌≡◌, ◌<◌, ◌^◌, length, ◌++◌, [], ℕ, true, false, is_none, Some, IfSome, IfOk, OnOk, IfErr};
-ghost use Rattle.ga_grid.specs.Chip.{records_of};
-ghost use Rattle.ga_lab.specs.Machine.{State, chip_of, causes_of, has_step};
+ghost use Rattle.ga_grid.specs.Chip.{records_of_chip};
+ghost use Rattle.ga_lab.specs.Machine.{MachineState, chip_of_machine, machine_events_with_looks, has_step};
 ghost use Rattle.std.specs.List.{All};
 ghost use Rattle.ga_race_detector.specs.Readings.{IsReportedLookRace, HasAllNearLookRaces};
-ghost use Rattle.ga_race_detector.specs.inner.Writers.{IsBeside};
+ghost use Rattle.ga_race_detector.specs.inner.Writers.{IsNeighbourKnowledgeTrue};
 ghost use Rattle.ga_race_detector.specs.Races.{race_with_offer, races_on_side, races_of_pass, races_of_event, races_of_node, races_of_nodes_below, requested_races, has_look_event, is_next_event_look, has_next_look_event, has_made_or_next_look, first_ready_node};
 
 use crate::adding::add;
@@ -13,9 +13,9 @@ use crate::alternatives::{alternative_word, offered_behind};
 use crate::left::LeftBeside;
 use crate::readings::{LookRace, find_look_races};
 use crate::writers::{Writers, may_come, writers_of};
-use ga_event::{Cause, next_event};
+use ga_event::{EventWithLook, next_event};
 use ga_grid::{Chip, NodeId, neighbour};
-use ga_lab::{Lab, LabFault, Made};
+use ga_lab::{Lab, LabFault, MadeEvent};
 use ga_ports::Side;
 use ga_word::Word18;
 use std::alloc::Global;
@@ -105,7 +105,7 @@ fn add_over(
     taken: &Taken,
     side: Side,
 ) -> Result<(), LabFault>
-    requires beside { IsBeside lab.old taken.now.reader.number beside.now }
+    requires beside { IsNeighbourKnowledgeTrue lab.old taken.now.reader.number beside.now }
     requires stands { has_step lab.old taken.now.reader.number taken.now.step ≡ true }
     ensures ok { OnOk result (list.new.items ≡ list.old.items
         ++ races_on_side lab.old taken.now.reader taken.now.step taken.now.writer taken.now.word side) }
@@ -147,7 +147,7 @@ fn add_around(
     beside: &Besides,
     taken: &Taken,
 ) -> Result<(), LabFault>
-    requires beside { IsBeside lab.old taken.now.reader.number beside.now }
+    requires beside { IsNeighbourKnowledgeTrue lab.old taken.now.reader.number beside.now }
     requires stands { has_step lab.old taken.now.reader.number taken.now.step ≡ true }
     ensures ok { OnOk result (list.new.items ≡ list.old.items
         ++ races_of_pass lab.old taken.now.reader taken.now.step taken.now.writer taken.now.word) }
@@ -168,16 +168,16 @@ fn add_told(
     beside: &Besides,
     node: NodeId,
     step: u32,
-    made: &Made,
+    made: &MadeEvent,
 ) -> Result<(), LabFault>
-    requires beside { IsBeside lab.old node.number beside.now }
+    requires beside { IsNeighbourKnowledgeTrue lab.old node.number beside.now }
     requires stands { has_step lab.old node.number step ≡ true }
     ensures ok { OnOk result (list.new.items ≡ list.old.items ++ races_of_event lab.old node step (Some made.now)) }
     ensures err { IfErr result (λ why. why ≡ LabFault.Memory) }
     ensures same { lab.new ≡ lab.old }
 {
     match made {
-        Made::Pass {
+        MadeEvent::Pass {
             writer,
             reader,
             word,
@@ -196,11 +196,11 @@ fn add_told(
 }
 
 // Whether by this step the node took a word: else it has no race.
-fn takes(made: &Made, node: NodeId) -> bool
-    ensures { result ≡ false → (s : State) (step : ℕ) → races_of_event s node step (Some made.now) ≡ [] }
+fn takes(made: &MadeEvent, node: NodeId) -> bool
+    ensures { result ≡ false → (s : MachineState) (step : ℕ) → races_of_event s node step (Some made.now) ≡ [] }
 {
     match made {
-        Made::Pass { reader, .. } => reader.number == node.number,
+        MadeEvent::Pass { reader, .. } => reader.number == node.number,
         _ => false,
     }
 }
@@ -224,10 +224,15 @@ fn takes_some(lab: &Lab, node: NodeId) -> bool
 }
 
 // Which neighbours ever waited to write to the node, and how many of their steps a rollback of each of its steps would leave.
-fn besides_of(alloc: Global, lab: &Lab, causes: &[Cause], node: NodeId) -> Result<Besides, LabFault>
-    requires all { causes.now ≡ causes_of lab.now }
+fn besides_of(
+    alloc: Global,
+    lab: &Lab,
+    causes: &[EventWithLook],
+    node: NodeId,
+) -> Result<Besides, LabFault>
+    requires all { causes.now ≡ machine_events_with_looks lab.now }
     requires few { length causes.now < 2 ^ 32 }
-    ensures ok { IfOk result (λ beside. IsBeside lab.now node.number beside) }
+    ensures ok { IfOk result (λ beside. IsNeighbourKnowledgeTrue lab.now node.number beside) }
     ensures err { IfErr result (λ why. why ≡ LabFault.Memory) }
 {
     let writers = writers_of(lab, node);
@@ -240,10 +245,10 @@ fn add_node(
     alloc: Global,
     list: &mut Vec<Race>,
     lab: &mut Lab,
-    causes: &[Cause],
+    causes: &[EventWithLook],
     node: NodeId,
 ) -> Result<(), LabFault>
-    requires all { causes.now ≡ causes_of lab.old }
+    requires all { causes.now ≡ machine_events_with_looks lab.old }
     requires few { length causes.now < 2 ^ 32 }
     ensures ok { OnOk result (list.new.items ≡ list.old.items ++ races_of_node lab.old node) }
     ensures err { IfErr result (λ why. why ≡ LabFault.Memory) }
@@ -268,9 +273,9 @@ fn add_nodes(
     alloc: Global,
     list: &mut Vec<Race>,
     lab: &mut Lab,
-    causes: &[Cause],
+    causes: &[EventWithLook],
 ) -> Result<(), LabFault>
-    requires all { causes.now ≡ causes_of lab.old }
+    requires all { causes.now ≡ machine_events_with_looks lab.old }
     requires few { length causes.now < 2 ^ 32 }
     ensures ok { OnOk result (list.new.items ≡ list.old.items ++ races_of_nodes_below lab.old 144) }
     ensures err { IfErr result (λ why. why ≡ LabFault.Memory) }
@@ -283,7 +288,7 @@ fn add_nodes(
 }
 
 // Whether one of the events looks.
-fn has_look_event(causes: &[Cause]) -> bool
+fn has_look_event(causes: &[EventWithLook]) -> bool
     ensures { result ≡ has_look_event causes.now }
 {
     'causes: for cause in causes {
@@ -296,15 +301,15 @@ fn has_look_event(causes: &[Cause]) -> bool
 
 // Whether the next event of the node is one of its own that looks.
 fn is_next_event_look(chip: &Chip, node: NodeId) -> bool
-    ensures { result ≡ is_next_event_look (records_of chip.now) node.number }
+    ensures { result ≡ is_next_event_look (records_of_chip chip.now) node.number }
 {
     let at = chip.node(node);
-    at.not_ready().is_none() && at.looks()
+    at.own_event_refusal().is_none() && at.reads_io_next()
 }
 
 // Whether some node has a next event that is one of its own and looks.
 fn has_next_look_event(chip: &Chip) -> bool
-    ensures { result ≡ has_next_look_event (records_of chip.now) 144 }
+    ensures { result ≡ has_next_look_event (records_of_chip chip.now) 144 }
 {
     let mut looks = false;
     'nodes: for number in 0..144u8 {
@@ -315,7 +320,7 @@ fn has_next_look_event(chip: &Chip) -> bool
 
 // Whether no node has an event.
 fn is_quiet(chip: &Chip) -> bool
-    ensures { result ≡ is_none (first_ready_node (records_of chip.now)) }
+    ensures { result ≡ is_none (first_ready_node (records_of_chip chip.now)) }
 {
     'nodes: for number in 0..144u8 {
         if next_event(chip, NodeId::new(number)).is_ok() {
@@ -326,8 +331,8 @@ fn is_quiet(chip: &Chip) -> bool
 }
 
 // The events of the history in order.
-fn kept_causes(lab: &Lab) -> Result<Vec<Cause>, LabFault>
-    ensures ok { IfOk result (λ list. list.items ≡ causes_of lab.now) }
+fn kept_causes(lab: &Lab) -> Result<Vec<EventWithLook>, LabFault>
+    ensures ok { IfOk result (λ list. list.items ≡ machine_events_with_looks lab.now) }
     ensures few { IfOk result (λ list. length list.items < 2 ^ 32) }
     ensures err { IfErr result (λ why. why ≡ LabFault.Memory) }
 {
@@ -343,10 +348,10 @@ fn kept_causes(lab: &Lab) -> Result<Vec<Cause>, LabFault>
 fn find_taken(
     alloc: Global,
     lab: &mut Lab,
-    causes: &[Cause],
+    causes: &[EventWithLook],
     only: Option<NodeId>,
 ) -> Result<Vec<Race>, LabFault>
-    requires all { causes.now ≡ causes_of lab.old }
+    requires all { causes.now ≡ machine_events_with_looks lab.old }
     requires few { length causes.now < 2 ^ 32 }
     ensures list { IfOk result (λ list. list.items ≡ requested_races lab.old only) }
     ensures err { IfErr result (λ why. why ≡ LabFault.Memory) }
@@ -372,8 +377,8 @@ pub fn find_races(alloc: Global, lab: &mut Lab, only: Option<NodeId>) -> Result<
     ensures list { IfOk result (λ races. races.list.items ≡ requested_races lab.old only) }
     ensures readings { IfOk result (λ races. All (IsReportedLookRace lab.old only) races.readings.items) }
     ensures none_missed { IfOk result (λ races. HasAllNearLookRaces lab.old only races.readings.items) }
-    ensures looks { IfOk result (λ races. races.looks ≡ has_made_or_next_look (causes_of lab.old) (chip_of lab.old)) }
-    ensures quiet { IfOk result (λ races. races.quiet ≡ is_none (first_ready_node (chip_of lab.old))) }
+    ensures looks { IfOk result (λ races. races.looks ≡ has_made_or_next_look (machine_events_with_looks lab.old) (chip_of_machine lab.old)) }
+    ensures quiet { IfOk result (λ races. races.quiet ≡ is_none (first_ready_node (chip_of_machine lab.old))) }
     ensures err { IfErr result (λ why. why ≡ LabFault.Memory) }
     ensures same { lab.new ≡ lab.old }
 {

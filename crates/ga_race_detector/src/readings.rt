@@ -2,26 +2,26 @@
 
 ghost use Rattle.std.specs.Prelude.{◌≡◌, ◌<◌, ◌+◌, ◌^◌, ℕ, List, length, take, Contains, Some, IsSome, IfSome, IfOk, OnOk, IfErr, None, slice_index_or};
 ghost use Rattle.std.specs.List.{All};
-ghost use Rattle.ga_grid.specs.Grid.{neighbour_of};
-ghost use Rattle.ga_grid.specs.Chip.{record_at};
+ghost use Rattle.ga_grid.specs.Grid.{neighbour_number};
+ghost use Rattle.ga_grid.specs.Chip.{node_record_at};
 ghost use Rattle.ga_event.specs.Apply.{shown_wait_state, shown_neighbour_state, neighbour_states};
 ghost use Rattle.ga_event.specs.Told.{count_steps};
-ghost use Rattle.ga_event.specs.declared.event.Cause.{Cause};
+ghost use Rattle.ga_event.specs.declared.event.EventWithLook.{EventWithLook};
 ghost use Rattle.ga_races.specs.declared.racing_pairs.RacingPair.{RacingPair};
-ghost use Rattle.ga_lab.specs.Machine.{chip_of, causes_of, earlier_state, state_after_rewind};
+ghost use Rattle.ga_lab.specs.Machine.{chip_of_machine, machine_events_with_looks, earlier_state, state_after_rewind};
 ghost use Rattle.ga_race_detector.specs.declared.look_changes.LookChange.{LookChange};
 ghost use Rattle.ga_race_detector.specs.Races.{has_look_event};
 ghost use Rattle.ga_race_detector.specs.Readings.{IsRealizableLookRace, IsReportedLookRace, HasAllNearLookRaces};
-ghost use Rattle.ga_race_detector.specs.inner.Glances.{IsAtNear, IsAround, AreAround, taken_of, IsGlance, IsGlanced, IsAroundOf, HasStep, AreKnown, IsOtherWord, AreRead};
+ghost use Rattle.ga_race_detector.specs.inner.Glances.{IsLookRaceAtPositions, IsStepsLeftAround, AreStepsLeftNearby, rollback_step_of_look_change, IsLookChangeAtPositions, IsRequestedLookChange, AreStepsKeptByLookRollback, IsRemovedStepMade, AreKnownStepsLeftCorrect, IsOtherReadWord, AreAllLookRacesFound};
 
 use crate::acts::{kept_accesses, shown_by};
 use crate::adding::add;
 use crate::around::{Around, StepsLeftNearby};
 use crate::look_changes::{LookChange, glance_at, glances_of};
-use ga_event::{Cause, is_waiting_to_read, is_waiting_to_write};
+use ga_event::{EventWithLook, is_waiting_to_read, is_waiting_to_write};
 use ga_grid::{NodeId, neighbour};
-use ga_lab::{Lab, LabFault, Made};
-use ga_node::{NeighbourState, Place, SeenNeighbours, Wait};
+use ga_lab::{Lab, LabFault, MadeEvent};
+use ga_node::{NeighbourState, NodePlace, SeenNeighbours, Wait};
 use ga_ports::Side;
 use ga_races::find_racing_pairs;
 use ga_word::Word18;
@@ -64,10 +64,10 @@ fn shown_wait_state(wait: &Wait, side: Side) -> NeighbourState
 #[tactic(auto, using(crate::proofs::Silent::steps_take))]
 fn shown_before(lab: &Lab, node: NodeId, steps: u32, side: Side) -> NeighbourState
     ensures { (place : ℕ) → count_steps node.number (take place lab.now.kept) ≡ steps →
-        result ≡ shown_wait_state (record_at (chip_of (earlier_state lab.now place)) node.number).wait side }
+        result ≡ shown_wait_state (node_record_at (chip_of_machine (earlier_state lab.now place)) node.number).wait side }
 {
     let now = lab.node(node);
-    match lab.overwritten_value(node, steps, Place::Wait) {
+    match lab.overwritten_value(node, steps, NodePlace::Wait) {
         Some(code) => shown_by(code, side),
         None => match lab.peek(node, steps) {
             Some(then) => shown_wait_state(&then.wait(), side),
@@ -79,21 +79,21 @@ fn shown_before(lab: &Lab, node: NodeId, steps: u32, side: Side) -> NeighbourSta
 // What a node showed on a side after `steps` of its steps: if its next step is its own, it waits for nothing.
 fn shown_at(lab: &Lab, node: NodeId, steps: u32, side: Side) -> NeighbourState
     ensures { (place : ℕ) → count_steps node.number (take place lab.now.kept) ≡ steps →
-        result ≡ shown_wait_state (record_at (chip_of (earlier_state lab.now place)) node.number).wait side }
+        result ≡ shown_wait_state (node_record_at (chip_of_machine (earlier_state lab.now place)) node.number).wait side }
 {
     let now = lab.node(node);
     let _many = lab.steps(node);
     match lab.made_event_of_step(node, steps) {
-        Some(Made::Own { .. }) => NeighbourState::Idle,
-        Some(Made::Pass { .. }) => shown_before(lab, node, steps, side),
+        Some(MadeEvent::Own { .. }) => NeighbourState::Idle,
+        Some(MadeEvent::Pass { .. }) => shown_before(lab, node, steps, side),
         None => shown_wait_state(&now.wait(), side),
     }
 }
 
 // The state of the neighbour on a side of the node, if these steps of each neighbour were left.
 fn beside_behind(lab: &Lab, around: &Around, node: NodeId, side: Side) -> NeighbourState
-    ensures { (b k : ℕ) → IsAround (causes_of lab.now) b k node.number around.now →
-        result ≡ shown_neighbour_state (chip_of (state_after_rewind lab.now b k)) side (neighbour_of node.number side) }
+    ensures { (b k : ℕ) → IsStepsLeftAround (machine_events_with_looks lab.now) b k node.number around.now →
+        result ≡ shown_neighbour_state (chip_of_machine (state_after_rewind lab.now b k)) side (neighbour_number node.number side) }
 {
     let _stands = lab.node(node);
     match neighbour(node, side) {
@@ -105,8 +105,8 @@ fn beside_behind(lab: &Lab, around: &Around, node: NodeId, side: Side) -> Neighb
 // The states of the neighbours on each side of the node, if these steps of each neighbour were left.
 #[tactic(auto, unfolding(ga_event::specs::Apply::neighbour_states))]
 fn seen_behind(lab: &Lab, around: &Around, node: NodeId) -> SeenNeighbours
-    ensures { (b k : ℕ) → IsAround (causes_of lab.now) b k node.number around.now →
-        result ≡ neighbour_states (chip_of (state_after_rewind lab.now b k)) node.number }
+    ensures { (b k : ℕ) → IsStepsLeftAround (machine_events_with_looks lab.now) b k node.number around.now →
+        result ≡ neighbour_states (chip_of_machine (state_after_rewind lab.now b k)) node.number }
 {
     SeenNeighbours {
         right: beside_behind(lab, around, node, Side::Right),
@@ -119,10 +119,10 @@ fn seen_behind(lab: &Lab, around: &Around, node: NodeId) -> SeenNeighbours
 // The word that a look would read after a rollback of its step or of the change, if that leaves all steps of its node before
 // it: then the look comes next.
 fn other_io_word(lab: &Lab, glance: &LookChange, around: &Around) -> Option<Word18>
-    requires glance { (near : RacingPair) × IsGlance lab.now near glance.now }
-    requires around { IsAroundOf (causes_of lab.now) glance.now around.now }
-    ensures is { IfSome result (λ word. IsOtherWord lab.now glance.now word) }
-    ensures some { count_steps glance.now.node.number (state_after_rewind lab.now (taken_of glance.now).0.number (taken_of glance.now).1).kept + 1 ≡ glance.now.step →
+    requires glance { (near : RacingPair) × IsLookChangeAtPositions lab.now near glance.now }
+    requires around { AreStepsKeptByLookRollback (machine_events_with_looks lab.now) glance.now around.now }
+    ensures is { IfSome result (λ word. IsOtherReadWord lab.now glance.now word) }
+    ensures some { count_steps glance.now.node.number (state_after_rewind lab.now (rollback_step_of_look_change glance.now).0.number (rollback_step_of_look_change glance.now).1).kept + 1 ≡ glance.now.step →
         IsSome result }
 {
     let _stands = lab.node(glance.node);
@@ -134,12 +134,12 @@ fn other_io_word(lab: &Lab, glance: &LookChange, around: &Around) -> Option<Word
 
 // A look and a change, as they are reported, if the look reads another word.
 fn reading_of(lab: &Lab, glance: &LookChange, around: &Around) -> Option<LookRace>
-    requires glance { (near : RacingPair) × IsGlance lab.now near glance.now }
-    requires around { IsAroundOf (causes_of lab.now) glance.now around.now }
+    requires glance { (near : RacingPair) × IsLookChangeAtPositions lab.now near glance.now }
+    requires around { AreStepsKeptByLookRollback (machine_events_with_looks lab.now) glance.now around.now }
     ensures told { IfSome result (λ reading. IsRealizableLookRace lab.now reading) }
     ensures node { IfSome result (λ reading. reading.node ≡ glance.now.node) }
-    ensures found { (near : RacingPair) (reading : LookRace) → IsGlance lab.now near glance.now → IsRealizableLookRace lab.now reading →
-        IsAtNear lab.now near reading → result ≡ Some reading }
+    ensures found { (near : RacingPair) (reading : LookRace) → IsLookChangeAtPositions lab.now near glance.now → IsRealizableLookRace lab.now reading →
+        IsLookRaceAtPositions lab.now near reading → result ≡ Some reading }
 {
     let _stands = lab.node(glance.node);
     let other = other_io_word(lab, glance, around)?;
@@ -165,13 +165,13 @@ fn add_reading(
     around: &Around,
     only: Option<NodeId>,
 ) -> Result<(), LabFault>
-    requires glance { IsGlanced lab.now only glance.now }
-    requires around { IsAroundOf (causes_of lab.now) glance.now around.now }
+    requires glance { IsRequestedLookChange lab.now only glance.now }
+    requires around { AreStepsKeptByLookRollback (machine_events_with_looks lab.now) glance.now around.now }
     requires told { All (IsReportedLookRace lab.now only) list.old.items }
     ensures told { OnOk result (All (IsReportedLookRace lab.now only) list.new.items) }
     ensures kept { OnOk result ((reading : LookRace) → Contains list.old.items reading → Contains list.new.items reading) }
-    ensures found { OnOk result ((near : RacingPair) (reading : LookRace) → IsGlance lab.now near glance.now → IsReportedLookRace lab.now only reading →
-        IsAtNear lab.now near reading → Contains list.new.items reading) }
+    ensures found { OnOk result ((near : RacingPair) (reading : LookRace) → IsLookChangeAtPositions lab.now near glance.now → IsReportedLookRace lab.now only reading →
+        IsLookRaceAtPositions lab.now near reading → Contains list.new.items reading) }
     ensures err { IfErr result (λ why. why ≡ LabFault.Memory) }
 {
     match reading_of(lab, glance, around) {
@@ -205,11 +205,11 @@ fn note(
     at: usize,
 )
     requires within { at < length known.old.items }
-    requires first { 0 < (taken_of other.now).1 }
+    requires first { 0 < (rollback_step_of_look_change other.now).1 }
     ensures size { length known.new.items ≡ length known.old.items }
-    ensures known { (causes : List Cause) (glances : List LookChange) → AreAround causes (taken_of of.now).0.number of.now.node.number lists.now →
-        HasStep causes other.now → at < length glances → other.now ≡ slice_index_or glances at other.now →
-        AreKnown causes glances known.old.items → AreKnown causes glances known.new.items }
+    ensures known { (causes : List EventWithLook) (glances : List LookChange) → AreStepsLeftNearby causes (rollback_step_of_look_change of.now).0.number of.now.node.number lists.now →
+        IsRemovedStepMade causes other.now → at < length glances → other.now ≡ slice_index_or glances at other.now →
+        AreKnownStepsLeftCorrect causes glances known.old.items → AreKnownStepsLeftCorrect causes glances known.new.items }
 {
     if other.is_related(of) {
         let step = other.taken().1;
@@ -222,19 +222,19 @@ fn note(
 // the same two nodes, by passes over the events for all of these.
 fn around_of(
     alloc: Global,
-    causes: &[Cause],
+    causes: &[EventWithLook],
     glances: &[LookChange],
     known: &mut Vec<Option<Around>>,
     place: usize,
 ) -> Result<Around, LabFault>
     requires few { length causes.now < 2 ^ 32 }
-    requires steps { All (HasStep causes.now) glances.now }
+    requires steps { All (IsRemovedStepMade causes.now) glances.now }
     requires within { place < length glances.now }
     requires size { length known.old.items ≡ length glances.now }
-    requires known { AreKnown causes.now glances.now known.old.items }
-    ensures around { IfOk result (λ around. (glance : LookChange) → glance ≡ slice_index_or glances.now place glance → IsAroundOf causes.now glance around) }
+    requires known { AreKnownStepsLeftCorrect causes.now glances.now known.old.items }
+    ensures around { IfOk result (λ around. (glance : LookChange) → glance ≡ slice_index_or glances.now place glance → AreStepsKeptByLookRollback causes.now glance around) }
     ensures size { OnOk result (length known.new.items ≡ length glances.now) }
-    ensures known { OnOk result (AreKnown causes.now glances.now known.new.items) }
+    ensures known { OnOk result (AreKnownStepsLeftCorrect causes.now glances.now known.new.items) }
     ensures err { IfErr result (λ why. why ≡ LabFault.Memory) }
 {
     if let Some(around) = known[place] {
@@ -254,15 +254,15 @@ fn around_of(
 fn readings_of(
     alloc: Global,
     lab: &Lab,
-    causes: &[Cause],
+    causes: &[EventWithLook],
     glances: &[LookChange],
     only: Option<NodeId>,
 ) -> Result<Vec<LookRace>, LabFault>
-    requires all { causes.now ≡ causes_of lab.now }
+    requires all { causes.now ≡ machine_events_with_looks lab.now }
     requires few { length causes.now < 2 ^ 32 }
-    requires glances { All (IsGlanced lab.now only) glances.now }
+    requires glances { All (IsRequestedLookChange lab.now only) glances.now }
     ensures told { IfOk result (λ list. All (IsReportedLookRace lab.now only) list.items) }
-    ensures found { IfOk result (λ list. AreRead lab.now only glances.now list.items) }
+    ensures found { IfOk result (λ list. AreAllLookRacesFound lab.now only glances.now list.items) }
     ensures err { IfErr result (λ why. why ≡ LabFault.Memory) }
 {
     let _stands = lab.node(NodeId::new(0));
@@ -286,11 +286,11 @@ fn readings_of(
 pub(crate) fn find_look_races(
     alloc: Global,
     lab: &Lab,
-    causes: &[Cause],
+    causes: &[EventWithLook],
     looks: bool,
     only: Option<NodeId>,
 ) -> Result<Vec<LookRace>, LabFault>
-    requires all { causes.now ≡ causes_of lab.now }
+    requires all { causes.now ≡ machine_events_with_looks lab.now }
     requires few { length causes.now < 2 ^ 32 }
     requires looks { looks ≡ has_look_event causes.now }
     ensures told { IfOk result (λ list. All (IsReportedLookRace lab.now only) list.items) }

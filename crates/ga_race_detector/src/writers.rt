@@ -3,17 +3,17 @@
 ghost use Rattle.std.specs.Prelude.{◌≡◌, ◌+◌, ◌<◌, ℕ, true, false, Some, None};
 ghost use Rattle.ga_node.specs.State.{wait_of_code, IsWaitCode};
 ghost use Rattle.ga_event.specs.Apply.{waits_to_read_side};
-ghost use Rattle.ga_grid.specs.Chip.{record_at};
+ghost use Rattle.ga_grid.specs.Chip.{node_record_at};
 ghost use Rattle.ga_event.specs.Told.{count_steps};
-ghost use Rattle.ga_grid.specs.Grid.{neighbour_of};
-ghost use Rattle.ga_lab.specs.Machine.{chip_of, state_after_rewind, has_step};
+ghost use Rattle.ga_grid.specs.Grid.{neighbour_number};
+ghost use Rattle.ga_lab.specs.Machine.{chip_of_machine, state_after_rewind, has_step};
 ghost use Rattle.ga_race_detector.specs.Races.{alternative_word};
-ghost use Rattle.ga_race_detector.specs.inner.Writers.{at_side, NeverOffers, AreSilent};
+ghost use Rattle.ga_race_detector.specs.inner.Writers.{is_side_flagged_for_writer, IsNeverOfferedOverSide, AreUnflaggedSidesSilent};
 
 use ga_event::{is_waiting_to_read, is_waiting_to_write};
 use ga_grid::{NodeId, neighbour};
 use ga_lab::Lab;
-use ga_node::Place;
+use ga_node::NodePlace;
 use ga_ports::{PortSet, Side};
 
 /// A flag for each side of a node.
@@ -35,7 +35,7 @@ impl Writers {
 
     /// The flag of a side.
     pub(crate) fn at(&self, side: Side) -> bool
-        ensures { result ≡ at_side self.now side }
+        ensures { result ≡ is_side_flagged_for_writer self.now side }
     {
         match side {
             Side::Right => self.right,
@@ -48,10 +48,10 @@ impl Writers {
 
 // Whether the node waits to write over the side, or did at load or after some of its steps.
 fn has_written(lab: &Lab, node: NodeId, side: Side) -> bool
-    ensures { result ≡ false → (n k : ℕ) → neighbour_of n side ≡ Some node.number → alternative_word (chip_of (state_after_rewind lab.now n k)) n side ≡ None }
+    ensures { result ≡ false → (n k : ℕ) → neighbour_number n side ≡ Some node.number → alternative_word (chip_of_machine (state_after_rewind lab.now n k)) n side ≡ None }
 {
     let _stands = lab.node(node);
-    let mut walk = lab.walk(node, lab.steps(node));
+    let mut walk = lab.walk_node_from_step(node, lab.steps(node));
     let mut waits = is_waiting_to_write(&walk.node().wait(), side);
     'back: while !waits && walk.step() > 0 {
         walk.back();
@@ -62,7 +62,7 @@ fn has_written(lab: &Lab, node: NodeId, side: Side) -> bool
 
 // Whether the neighbour on a side of the node waits to write to it, or did at load or after some of its steps.
 fn is_written(lab: &Lab, node: NodeId, side: Side) -> bool
-    ensures { result ≡ false → NeverOffers lab.now node.number side }
+    ensures { result ≡ false → IsNeverOfferedOverSide lab.now node.number side }
 {
     match neighbour(node, side) {
         Some(other) => has_written(lab, other, side),
@@ -74,7 +74,7 @@ fn is_written(lab: &Lab, node: NodeId, side: Side) -> bool
 /// rollback leaves a word offered to it. Takes no memory, and time linear in the number of steps of the neighbours that never
 /// did.
 pub(crate) fn writers_of(lab: &Lab, node: NodeId) -> Writers
-    ensures { AreSilent lab.now node.number result }
+    ensures { AreUnflaggedSidesSilent lab.now node.number result }
 {
     Writers {
         right: is_written(lab, node, Side::Right),
@@ -93,13 +93,13 @@ pub(crate) fn reads_by(code: u32, side: Side) -> bool
         return false;
     }
     let sides = if code < 32 { code - 16 } else { code - 32 };
-    PortSet::of(sides as u8).has(side)
+    PortSet::from_bits(sides as u8).has(side)
 }
 
 // Whether the node waited to read over the side right before its step, by a copy of the node walked back.
 fn read_then(lab: &Lab, node: NodeId, step: u32, side: Side) -> bool
     requires { has_step lab.now node.number step ≡ true }
-    ensures { result ≡ waits_to_read_side (record_at (chip_of (state_after_rewind lab.now node.number step)) node.number).wait side }
+    ensures { result ≡ waits_to_read_side (node_record_at (chip_of_machine (state_after_rewind lab.now node.number step)) node.number).wait side }
 {
     let _stands = lab.node(node);
     match lab.peek(node, step - 1) {
@@ -112,10 +112,10 @@ fn read_then(lab: &Lab, node: NodeId, step: u32, side: Side) -> bool
 #[tactic(auto, using(crate::proofs::Silent::waited, ga_lab::proofs::Called::runs_of))]
 fn reads_before(lab: &Lab, node: NodeId, step: u32, side: Side) -> bool
     requires { has_step lab.now node.number step ≡ true }
-    ensures { result ≡ waits_to_read_side (record_at (chip_of (state_after_rewind lab.now node.number step)) node.number).wait side }
+    ensures { result ≡ waits_to_read_side (node_record_at (chip_of_machine (state_after_rewind lab.now node.number step)) node.number).wait side }
 {
     let _stands = lab.node(node);
-    match lab.overwritten_value(node, step - 1, Place::Wait) {
+    match lab.overwritten_value(node, step - 1, NodePlace::Wait) {
         Some(code) => reads_by(code, side),
         None => read_then(lab, node, step, side),
     }
@@ -125,10 +125,10 @@ fn reads_before(lab: &Lab, node: NodeId, step: u32, side: Side) -> bool
 /// neighbour ever waited to write there, and the node waited for a word there right before the step.
 #[tactic(auto, using(crate::proofs::Silent::unread))]
 pub(crate) fn may_come(lab: &Lab, writers: &Writers, node: NodeId, step: u32, side: Side) -> bool
-    requires silent { AreSilent lab.now node.number writers.now }
+    requires silent { AreUnflaggedSidesSilent lab.now node.number writers.now }
     requires stands { has_step lab.now node.number step ≡ true }
-    ensures none { result ≡ false → alternative_word (chip_of (state_after_rewind lab.now node.number step)) node.number side ≡ None }
-    ensures reads { result ≡ true → waits_to_read_side (record_at (chip_of (state_after_rewind lab.now node.number step)) node.number).wait side ≡ true }
+    ensures none { result ≡ false → alternative_word (chip_of_machine (state_after_rewind lab.now node.number step)) node.number side ≡ None }
+    ensures reads { result ≡ true → waits_to_read_side (node_record_at (chip_of_machine (state_after_rewind lab.now node.number step)) node.number).wait side ≡ true }
 {
     if !writers.at(side) {
         return false;

@@ -8,17 +8,17 @@ use Rattle.ga_ports.specs.declared.side.Side.{Side}
 use Rattle.ga_ports.specs.declared.side.Side.TheVariants.{Right, Down, Left, Up}
 use Rattle.ga_node.specs.Io.{side_io_bits, io_word}
 use Rattle.ga_node.specs.Record.{NodeRecord}
-use Rattle.ga_node.specs.Table.{looks}
-use Rattle.ga_grid.specs.Grid.{neighbour_of}
-use Rattle.ga_grid.specs.Chip.{record_at}
-use Rattle.ga_event.specs.Apply.{AgreeOutsideMarks, shown_wait_state, shown_neighbour_state, neighbour_states, after, is_look}
+use Rattle.ga_node.specs.Table.{reads_io_next}
+use Rattle.ga_grid.specs.Grid.{neighbour_number}
+use Rattle.ga_grid.specs.Chip.{node_record_at}
+use Rattle.ga_event.specs.Apply.{AgreeOutsideMarks, shown_wait_state, shown_neighbour_state, neighbour_states, event_result, is_look}
 use Rattle.ga_event.specs.declared.event.Event.{Event}
 use Rattle.ga_event.specs.declared.event.Event.TheVariants.{Own, Pass}
 use Rattle.ga_event.specs.Touches.{event_nodes, touches}
-use Rattle.ga_causal.specs.Words.{received_word}
+use Rattle.ga_causal.specs.Words.{outside_word_of_event}
 use Rattle.ga_causal.proofs.Words.{same_node}
-use Rattle.ga_races.specs.Orders.{IsEnabled, AreIndependentOn}
-use Rattle.ga_races.specs.HappensBefore.{TraceAction, action_of, is_look_changed_by, are_dependent}
+use Rattle.ga_races.specs.Orders.{IsEnabled, AreIndependentOnChip}
+use Rattle.ga_races.specs.HappensBefore.{TraceAction, trace_action_of_event, is_look_changed_by, are_dependent_actions}
 use Rattle.ga_races.proofs.Independence.{replay_more, stays, still_enabled, can_back, any_of, independent_of, apart-sym}
 use Rattle.ga_races.proofs.Blind.{look_still, word_still}
 
@@ -41,8 +41,8 @@ module _ (one other : ℕ → Bool) (apart : (n : ℕ) → one n ≡ true → ot
   side_sum side (Some m) first second =
       let word : NodeRecord → ℕ = λ z. side_io_bits (shown_wait_state z.wait side) first second in
       elim (cases_Bool (one m)) [
-        | inl t ↦ straight (word (record_at c m)) (word (record_at d m)) (word (record_at u m)) (word (record_at v m)) (ap word (cd.same m (apart m t))) (ap word (uv.same m (apart m t)))
-        | inr out ↦ crossed (word (record_at c m)) (word (record_at d m)) (word (record_at u m)) (word (record_at v m)) (ap word (cu.same m out)) (ap word (dv.same m out))
+        | inl t ↦ straight (word (node_record_at c m)) (word (node_record_at d m)) (word (node_record_at u m)) (word (node_record_at v m)) (ap word (cd.same m (apart m t))) (ap word (uv.same m (apart m t)))
+        | inr out ↦ crossed (word (node_record_at c m)) (word (node_record_at d m)) (word (node_record_at u m)) (word (node_record_at v m)) (ap word (cu.same m out)) (ap word (dv.same m out))
       ]
 
   sum_of : (r1 r2 r3 r4 d1 d2 d3 d4 l1 l2 l3 l4 u1 u2 u3 u4 : ℕ) → r1 + r4 ≡ r2 + r3 → d1 + d4 ≡ d2 + d3 → l1 + l4 ≡ l2 + l3 → u1 + u4 ≡ u2 + u3
@@ -53,8 +53,8 @@ module _ (one other : ℕ → Bool) (apart : (n : ℕ) → one n ≡ true → ot
   unfolding io_word neighbour_states
   io_sum n =
       sum_of _ _ _ _ _ _ _ _ _ _ _ _ _ _ _ _
-      (side_sum Right (neighbour_of n Right) 16 15) (side_sum Down (neighbour_of n Down) 14 13)
-      (side_sum Left (neighbour_of n Left) 12 11) (side_sum Up (neighbour_of n Up) 10 9)
+      (side_sum Right (neighbour_number n Right) 16 15) (side_sum Down (neighbour_number n Down) 14 13)
+      (side_sum Left (neighbour_number n Left) 12 11) (side_sum Up (neighbour_number n Up) 10 9)
 
   equal_alike : (a b x y : ℕ) → a + y ≡ b + x → (y == x) ≡ (b == a)
   equal_alike a b x y h = elim (cases_eq b a) [
@@ -66,24 +66,24 @@ module _ (one other : ℕ → Bool) (apart : (n : ℕ) → one n ≡ true → ot
   changes_alike n = equal_alike (io_word (neighbour_states c n)) (io_word (neighbour_states d n)) (io_word (neighbour_states u n)) (io_word (neighbour_states v n)) (io_sum n)
 
 -- the chips after an event with the other before it and without, where it receives the same word
-agree_behind : (c : List NodeRecord) (e f : Event) → IsEnabled c e → IsEnabled c f → Apart e f → received_word (after c e).0 f ≡ received_word c f → AgreeOutsideMarks (touches e) (after c f).0 (after (after c e).0 f).0
+agree_behind : (c : List NodeRecord) (e f : Event) → IsEnabled c e → IsEnabled c f → Apart e f → outside_word_of_event (event_result c e).0 f ≡ outside_word_of_event c f → AgreeOutsideMarks (touches e) (event_result c f).0 (event_result (event_result c e).0 f).0
 agree_behind c e f cane canf apart word =
-    let then : IsEnabled (after c e).0 f = still_enabled c f e (apart-sym e f apart) cane canf in
+    let then : IsEnabled (event_result c e).0 f = still_enabled c f e (apart-sym e f apart) cane canf in
     record {
-      size = sym (stays c f canf).size ∙ (stays c e cane).size ∙ (stays (after c e).0 f then).size;
-      same = λ n out. same_node c (after c e).0 (after c f).0 (after (after c e).0 f).0 (f ∷ []) (f ∷ []) n (replay_more c f [] canf) (replay_more (after c e).0 f [] then)
+      size = sym (stays c f canf).size ∙ (stays c e cane).size ∙ (stays (event_result c e).0 f then).size;
+      same = λ n out. same_node c (event_result c e).0 (event_result c f).0 (event_result (event_result c e).0 f).0 (f ∷ []) (f ∷ []) n (replay_more c f [] canf) (replay_more (event_result c e).0 f [] then)
           (stays c e cane).size ((stays c e cane).same n out) (ap (λ (w : Option ℕ). filter (λ (x : Event × Option ℕ). touches x.0 n) ((f, w) ∷ [])) (sym word));
     }
 
 -- an event is the same action after another that touches none of its nodes and after which it receives the same word
-pub action_still : (c : List NodeRecord) (e f : Event) → IsEnabled c e → IsEnabled c f → Apart e f → received_word (after c e).0 f ≡ received_word c f → action_of (after c e).0 f ≡ action_of c f
+pub action_still : (c : List NodeRecord) (e f : Event) → IsEnabled c e → IsEnabled c f → Apart e f → outside_word_of_event (event_result c e).0 f ≡ outside_word_of_event c f → trace_action_of_event (event_result c e).0 f ≡ trace_action_of_event c f
 action_still c e f cane canf apart word =
     let back = apart-sym e f apart in
-    let then : IsEnabled (after c e).0 f = still_enabled c f e back cane canf in
+    let then : IsEnabled (event_result c e).0 f = still_enabled c f e back cane canf in
     ap₂ (λ (look : Bool) (changes : ℕ → Bool). let made : TraceAction = record { cause = record { event = f; look = look }; changes = changes } in made)
     (look_still c f e cane back)
-    (fun_ext (λ n. ap not (changes_alike (touches e) (touches f) apart c (after c f).0 (after c e).0 (after (after c e).0 f).0
-    (stays c f canf) (stays (after c e).0 f then) (stays c e cane) (agree_behind c e f cane canf apart word) n)))
+    (fun_ext (λ n. ap not (changes_alike (touches e) (touches f) apart c (event_result c f).0 (event_result c e).0 (event_result (event_result c e).0 f).0
+    (stays c f canf) (stays (event_result c e).0 f then) (stays c e cane) (agree_behind c e f cane canf apart word) n)))
 
 -- ---- independent events are not dependent as actions
 
@@ -100,21 +100,21 @@ same_of true x y h = ap Some (eqb-true x y (equal (x == y) h))
     equal false k = absurd (true≢false k)
 same_of false x y h = refl
 
-unshown : (c : List NodeRecord) (e f : Event) → IsEnabled c f → Apart e f → received_word (after c f).0 e ≡ received_word c e → is_look_changed_by (action_of c e) (action_of c f) ≡ false
+unshown : (c : List NodeRecord) (e f : Event) → IsEnabled c f → Apart e f → outside_word_of_event (event_result c f).0 e ≡ outside_word_of_event c e → is_look_changed_by (trace_action_of_event c e) (trace_action_of_event c f) ≡ false
 unshown c (Own a) f canf apart word =
-    unshown_of (looks (record_at c a.number)) (io_word (neighbour_states (after c f).0 a.number)) (io_word (neighbour_states c a.number))
-    (ap (λ (b : Bool). cond {A = Option ℕ} b (Some (io_word (neighbour_states (after c f).0 a.number))) None) (sym (look_still c (Own a) f canf apart)) ∙ word)
+    unshown_of (reads_io_next (node_record_at c a.number)) (io_word (neighbour_states (event_result c f).0 a.number)) (io_word (neighbour_states c a.number))
+    (ap (λ (b : Bool). cond {A = Option ℕ} b (Some (io_word (neighbour_states (event_result c f).0 a.number))) None) (sym (look_still c (Own a) f canf apart)) ∙ word)
 unshown c (Pass w r side) f canf apart word = refl
 
-word_same : (c : List NodeRecord) (e f : Event) (a : TraceAction) → IsEnabled c f → Apart e f → a.cause.event ≡ e → a.cause.look ≡ is_look c e → is_look_changed_by a (action_of c f) ≡ false → received_word (after c f).0 e ≡ received_word c e
+word_same : (c : List NodeRecord) (e f : Event) (a : TraceAction) → IsEnabled c f → Apart e f → a.cause.event ≡ e → a.cause.look ≡ is_look c e → is_look_changed_by a (trace_action_of_event c f) ≡ false → outside_word_of_event (event_result c f).0 e ≡ outside_word_of_event c e
 word_same c e f a canf apart is look none = by_event e apart
-    (subst (λ (b : Bool). (b && list_any (action_of c f).changes (event_nodes e)) ≡ false) look
-    (subst (λ (z : Event). (a.cause.look && list_any (action_of c f).changes (event_nodes z)) ≡ false) is none))
+    (subst (λ (b : Bool). (b && list_any (trace_action_of_event c f).changes (event_nodes e)) ≡ false) look
+    (subst (λ (z : Event). (a.cause.look && list_any (trace_action_of_event c f).changes (event_nodes z)) ≡ false) is none))
   where
-    by_event : (g : Event) → Apart g f → (is_look c g && list_any (action_of c f).changes (event_nodes g)) ≡ false → received_word (after c f).0 g ≡ received_word c g
+    by_event : (g : Event) → Apart g f → (is_look c g && list_any (trace_action_of_event c f).changes (event_nodes g)) ≡ false → outside_word_of_event (event_result c f).0 g ≡ outside_word_of_event c g
     by_event (Own n) free h =
-        ap (λ (b : Bool). cond {A = Option ℕ} b (Some (io_word (neighbour_states (after c f).0 n.number))) None) (look_still c (Own n) f canf free)
-        ∙ same_of (looks (record_at c n.number)) (io_word (neighbour_states (after c f).0 n.number)) (io_word (neighbour_states c n.number)) h
+        ap (λ (b : Bool). cond {A = Option ℕ} b (Some (io_word (neighbour_states (event_result c f).0 n.number))) None) (look_still c (Own n) f canf free)
+        ∙ same_of (reads_io_next (node_record_at c n.number)) (io_word (neighbour_states (event_result c f).0 n.number)) (io_word (neighbour_states c n.number)) h
     by_event (Pass w r side) free h = word_still c (Pass w r side) f canf free refl
 
 none_common : (e f : Event) → Apart e f → list_any (touches e) (event_nodes f) ≡ false
@@ -122,33 +122,33 @@ none_common e f apart =
     false_from_ne_true (list_any (touches e) (event_nodes f)) (λ t. let k = any_of (touches e) (event_nodes f) t in both_ways (touches f k.node) (apart k.node k.marked_nodes) k.listed)
 
 -- independent events are not dependent as actions
-pub unbound_of : (c : List NodeRecord) (e f : Event) → IsEnabled c e → IsEnabled c f → AreIndependentOn c e f → are_dependent (action_of c e) (action_of c f) ≡ false
+pub unbound_of : (c : List NodeRecord) (e f : Event) → IsEnabled c e → IsEnabled c f → AreIndependentOnChip c e f → are_dependent_actions (trace_action_of_event c e) (trace_action_of_event c f) ≡ false
 unbound_of c e f cane canf free =
-    or_from (list_any (touches e) (event_nodes f)) (is_look_changed_by (action_of c e) (action_of c f) || is_look_changed_by (action_of c f) (action_of c e)) (none_common e f free.apart)
-    (or_from (is_look_changed_by (action_of c e) (action_of c f)) (is_look_changed_by (action_of c f) (action_of c e))
+    or_from (list_any (touches e) (event_nodes f)) (is_look_changed_by (trace_action_of_event c e) (trace_action_of_event c f) || is_look_changed_by (trace_action_of_event c f) (trace_action_of_event c e)) (none_common e f free.apart)
+    (or_from (is_look_changed_by (trace_action_of_event c e) (trace_action_of_event c f)) (is_look_changed_by (trace_action_of_event c f) (trace_action_of_event c e))
     (unshown c e f canf free.apart free.first) (unshown c f e cane (apart-sym e f free.apart) free.second))
 
 -- and neighbours in a list whose actions are not dependent are independent
-pub free_of : (c : List NodeRecord) (e f : Event) → IsEnabled c e → IsEnabled (after c e).0 f → are_dependent (action_of c e) (action_of (after c e).0 f) ≡ false → IsEnabled c f × AreIndependentOn c e f
+pub free_of : (c : List NodeRecord) (e f : Event) → IsEnabled c e → IsEnabled (event_result c e).0 f → are_dependent_actions (trace_action_of_event c e) (trace_action_of_event (event_result c e).0 f) ≡ false → IsEnabled c f × AreIndependentOnChip c e f
 free_of c e f cane then none =
-    let d = (after c e).0 in
-    let p = or_parts (list_any (touches e) (event_nodes f)) (is_look_changed_by (action_of c e) (action_of d f) || is_look_changed_by (action_of d f) (action_of c e)) none in
-    let q = or_parts (is_look_changed_by (action_of c e) (action_of d f)) (is_look_changed_by (action_of d f) (action_of c e)) p.1 in
+    let d = (event_result c e).0 in
+    let p = or_parts (list_any (touches e) (event_nodes f)) (is_look_changed_by (trace_action_of_event c e) (trace_action_of_event d f) || is_look_changed_by (trace_action_of_event d f) (trace_action_of_event c e)) none in
+    let q = or_parts (is_look_changed_by (trace_action_of_event c e) (trace_action_of_event d f)) (is_look_changed_by (trace_action_of_event d f) (trace_action_of_event c e)) p.1 in
     let apart : Apart e f = independent_of e f p.0 in
     let back : Apart f e = apart-sym e f apart in
     let canf : IsEnabled c f = can_back c f e back cane then in
-    let second : received_word d f ≡ received_word c f = word_same c f e (action_of d f) cane back refl (look_still c f e cane back) q.1 in
-    let first : received_word (after c f).0 e ≡ received_word c e =
-    word_same c e f (action_of c e) canf apart refl refl (subst (λ (a : TraceAction). is_look_changed_by (action_of c e) a ≡ false) (action_still c e f cane canf apart second) q.0) in
+    let second : outside_word_of_event d f ≡ outside_word_of_event c f = word_same c f e (trace_action_of_event d f) cane back refl (look_still c f e cane back) q.1 in
+    let first : outside_word_of_event (event_result c f).0 e ≡ outside_word_of_event c e =
+    word_same c e f (trace_action_of_event c e) canf apart refl refl (subst (λ (a : TraceAction). is_look_changed_by (trace_action_of_event c e) a ≡ false) (action_still c e f cane canf apart second) q.0) in
     (canf, record { apart = apart; first = first; second = second })
 
 -- actions that are not dependent touch no common node
-pub unbound_apart : (a b : TraceAction) → are_dependent a b ≡ false → (n : ℕ) → touches a.cause.event n ≡ true → touches b.cause.event n ≡ false
+pub unbound_apart : (a b : TraceAction) → are_dependent_actions a b ≡ false → (n : ℕ) → touches a.cause.event n ≡ true → touches b.cause.event n ≡ false
 unbound_apart a b none = independent_of a.cause.event b.cause.event ((or_parts (list_any (touches a.cause.event) (event_nodes b.cause.event)) (is_look_changed_by a b || is_look_changed_by b a) none).0)
 
 -- which are all cases of neighbours in a list
-pub free_exact : (c : List NodeRecord) (e f : Event) → IsEnabled c e → IsEnabled (after c e).0 f → (are_dependent (action_of c e) (action_of (after c e).0 f) ≡ false) ↔ (IsEnabled c f × AreIndependentOn c e f)
+pub free_exact : (c : List NodeRecord) (e f : Event) → IsEnabled c e → IsEnabled (event_result c e).0 f → (are_dependent_actions (trace_action_of_event c e) (trace_action_of_event (event_result c e).0 f) ≡ false) ↔ (IsEnabled c f × AreIndependentOnChip c e f)
 free_exact c e f cane then = (
   λ none. free_of c e f cane then none,
-  λ free. ap (are_dependent (action_of c e)) (action_still c e f cane free.0 free.1.apart free.1.second) ∙ unbound_of c e f cane free.0 free.1,
+  λ free. ap (are_dependent_actions (trace_action_of_event c e)) (action_still c e f cane free.0 free.1.apart free.1.second) ∙ unbound_of c e f cane free.0 free.1,
 )

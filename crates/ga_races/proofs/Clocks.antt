@@ -6,7 +6,7 @@ use Rattle.std.proofs.Math.Nat.{le-max_left, le-max_right}
 use Rattle.std.proofs.lemmas.Bool.{cases_lt, cases_order, both_ways, or_left}
 use Rattle.ga_event.specs.Touches.{event_nodes, touches}
 use Rattle.ga_causal.specs.Steps.{count_touching_events, IsKthStep}
-use Rattle.ga_races.specs.HappensBefore.{TraceAction, causes_of_actions, action_at, is_look_changed_by, are_dependent, IsDirectlyBefore, HappensBefore, directly, through, IsVectorClock, joined_clock, clock_at_place}
+use Rattle.ga_races.specs.HappensBefore.{TraceAction, events_with_looks_of_trace_actions, trace_action_at, is_look_changed_by, are_dependent_actions, HappensDirectlyBefore, HappensBefore, directly, through, IsVectorClock, joined_clock, clock_at_place}
 use Rattle.ga_races.proofs.Independence.{any_at}
 use Rattle.ga_races.proofs.Moves.{tally, tally_is, tally_grows, before_within, IsTallied, tallied_of}
 use Rattle.ga_races.proofs.Tallies.{tally_up}
@@ -16,7 +16,7 @@ happens_trans xs i j k h (directly d) = through h d
 happens_trans xs i j k h (through {middle} g d) = through (happens_trans xs i j middle h g) d
 
 -- the last link of what happens before
-last_of : (xs : List TraceAction) (i j : ℕ) → HappensBefore xs i j → (m : ℕ) × ((i ≡ m) ⊎ HappensBefore xs i m) × IsDirectlyBefore xs m j
+last_of : (xs : List TraceAction) (i j : ℕ) → HappensBefore xs i j → (m : ℕ) × ((i ≡ m) ⊎ HappensBefore xs i m) × HappensDirectlyBefore xs m j
 last_of xs i j (directly d) = (i, inl refl, d)
 last_of xs i j (through {middle} h d) = (middle, inr h, d)
 
@@ -48,20 +48,20 @@ one_of (c ∷ known) n k p l = elim (cases_lt (c.1 n) k) [
       | inr z ↦ z
     ]
 
-common : (a b : TraceAction) (n : ℕ) → touches a.cause.event n ≡ true → touches b.cause.event n ≡ true → are_dependent a b ≡ true
+common : (a b : TraceAction) (n : ℕ) → touches a.cause.event n ≡ true → touches b.cause.event n ≡ true → are_dependent_actions a b ≡ true
 common a b n t u = or_left (list_any (touches a.cause.event) (event_nodes b.cause.event)) (is_look_changed_by a b || is_look_changed_by b a) (any_at (touches a.cause.event) (event_nodes b.cause.event) n u t)
 
-pub in_order : (xs : List TraceAction) (i j n : ℕ) → i < j → j < length xs → touches (action_at xs i).cause.event n ≡ true → touches (action_at xs j).cause.event n ≡ true → HappensBefore xs i j
-in_order xs i j n l m t u = directly (record { before = l; within = m; bound = common (action_at xs i) (action_at xs j) n t u })
+pub in_order : (xs : List TraceAction) (i j n : ℕ) → i < j → j < length xs → touches (trace_action_at xs i).cause.event n ≡ true → touches (trace_action_at xs j).cause.event n ≡ true → HappensBefore xs i j
+in_order xs i j n l m t u = directly (record { before = l; within = m; bound = common (trace_action_at xs i) (trace_action_at xs j) n t u })
 
-tally_next : (n : ℕ) (xs : List TraceAction) (i : ℕ) → i < length xs → touches (action_at xs i).cause.event n ≡ true → tally n xs (i + 1) ≡ suc (tally n xs i)
+tally_next : (n : ℕ) (xs : List TraceAction) (i : ℕ) → i < length xs → touches (trace_action_at xs i).cause.event n ≡ true → tally n xs (i + 1) ≡ suc (tally n xs i)
 tally_next n xs i l t = subst (λ (z : ℕ). tally n xs z ≡ suc (tally n xs i)) (let e : suc i ≡ i + 1 = omega arith in e) (go xs i l t)
   where
     first : (ys : List TraceAction) → tally n ys 0 ≡ 0
     first [] = refl
     first (y ∷ ys) = refl
 
-    go : (ys : List TraceAction) (j : ℕ) → j < length ys → touches (action_at ys j).cause.event n ≡ true → tally n ys (suc j) ≡ suc (tally n ys j)
+    go : (ys : List TraceAction) (j : ℕ) → j < length ys → touches (trace_action_at ys j).cause.event n ≡ true → tally n ys (suc j) ≡ suc (tally n ys j)
     go [] j k u = absurd (omega (arith, k))
     go (y ∷ ys) zero k u = ap (λ (b : Bool). cond b 1 0 + tally n ys 0) u ∙ (let z : tally n ys 0 ≡ 0 = first ys in let g : 1 + tally n ys 0 ≡ 1 = omega (arith, z) in g)
     go (y ∷ ys) (suc j) k u = more (cond (touches y.cause.event n) 1 0) (tally n ys (suc j)) (tally n ys j) (go ys j (omega (arith, k)) u)
@@ -70,24 +70,24 @@ tally_next n xs i l t = subst (λ (z : ℕ). tally n xs z ≡ suc (tally n xs i)
         more x a b h = omega (arith, h)
 
 module _ (xs : List TraceAction) (place : ℕ) (known : List (ℕ × (ℕ → ℕ))) (inside : place < length xs)
-    (clocks : All (λ (p : ℕ × (ℕ → ℕ)). IsDirectlyBefore xs p.0 place × IsVectorClock xs p.0 p.1) known)
-    (covered : (m : ℕ) → IsDirectlyBefore xs m place → (p : ℕ × (ℕ → ℕ)) × Contains known p × ((m ≡ p.0) ⊎ HappensBefore xs m p.0)) where
+    (clocks : All (λ (p : ℕ × (ℕ → ℕ)). HappensDirectlyBefore xs p.0 place × IsVectorClock xs p.0 p.1) known)
+    (covered : (m : ℕ) → HappensDirectlyBefore xs m place → (p : ℕ × (ℕ → ℕ)) × Contains known p × ((m ≡ p.0) ⊎ HappensBefore xs m p.0)) where
   -- its own steps are counted
-  own : (n k step : ℕ) → touches (action_at xs place).cause.event n ≡ true → IsTallied xs n k step → (k ≤ count_touching_events n (take (place + 1) (causes_of_actions xs))) ↔ ((step ≡ place) ⊎ HappensBefore xs step place)
+  own : (n k step : ℕ) → touches (trace_action_at xs place).cause.event n ≡ true → IsTallied xs n k step → (k ≤ count_touching_events n (take (place + 1) (events_with_looks_of_trace_actions xs))) ↔ ((step ≡ place) ⊎ HappensBefore xs step place)
   own n k step t s = (forth, back)
     where
-      count : count_touching_events n (take (place + 1) (causes_of_actions xs)) ≡ suc (tally n xs place)
+      count : count_touching_events n (take (place + 1) (events_with_looks_of_trace_actions xs)) ≡ suc (tally n xs place)
       count = tally_is n xs (place + 1) ∙ tally_next n xs place inside t
 
-      forth : k ≤ count_touching_events n (take (place + 1) (causes_of_actions xs)) → (step ≡ place) ⊎ HappensBefore xs step place
+      forth : k ≤ count_touching_events n (take (place + 1) (events_with_looks_of_trace_actions xs)) → (step ≡ place) ⊎ HappensBefore xs step place
       forth l = elim (cases_order step place) [
         | inl q ↦ inl q
-        | inr (inl b) ↦ inr (directly (record { before = b; within = inside; bound = common (action_at xs step) (action_at xs place) n s.touched t }))
+        | inr (inl b) ↦ inr (directly (record { before = b; within = inside; bound = common (trace_action_at xs step) (trace_action_at xs place) n s.touched t }))
         | inr (inr b) ↦ (let g : tally n xs place < tally n xs step = tally_grows n xs place step b inside t in
             let e : suc (tally n xs step) ≡ k = s.before in absurd (omega (arith, g, e, l, count)))
       ]
 
-      back : (step ≡ place) ⊎ HappensBefore xs step place → k ≤ count_touching_events n (take (place + 1) (causes_of_actions xs))
+      back : (step ≡ place) ⊎ HappensBefore xs step place → k ≤ count_touching_events n (take (place + 1) (events_with_looks_of_trace_actions xs))
       back h =
           let b : step ≤ place = at_most h in
           let g : tally n xs step ≤ tally n xs place = tally_up n xs step place b in
@@ -99,7 +99,7 @@ module _ (xs : List TraceAction) (place : ℕ) (known : List (ℕ × (ℕ → �
           at_most (inr z) = let b : step < place = (before_within xs step place z).0 in omega (arith, b)
 
   -- and those of other nodes are those of an earlier clock
-  of_others : (n k step : ℕ) → touches (action_at xs place).cause.event n ≡ false → IsKthStep (causes_of_actions xs) n k step → (k ≤ joined_clock known n) ↔ ((step ≡ place) ⊎ HappensBefore xs step place)
+  of_others : (n k step : ℕ) → touches (trace_action_at xs place).cause.event n ≡ false → IsKthStep (events_with_looks_of_trace_actions xs) n k step → (k ≤ joined_clock known n) ↔ ((step ≡ place) ⊎ HappensBefore xs step place)
   of_others n k step f s = (forth, back)
     where
       tallied : IsTallied xs n k step
@@ -113,12 +113,12 @@ module _ (xs : List TraceAction) (place : ℕ) (known : List (ℕ × (ℕ → �
           let p = clocks r.at d r.within in
           inr (on p.0 ((p.1 n k step s).0 (r.is d)))
         where
-          on : {m : ℕ} → IsDirectlyBefore xs m place → (step ≡ m) ⊎ HappensBefore xs step m → HappensBefore xs step place
-          on {m} b (inl q) = directly (subst (λ (z : ℕ). IsDirectlyBefore xs z place) (sym q) b)
+          on : {m : ℕ} → HappensDirectlyBefore xs m place → (step ≡ m) ⊎ HappensBefore xs step m → HappensBefore xs step place
+          on {m} b (inl q) = directly (subst (λ (z : ℕ). HappensDirectlyBefore xs z place) (sym q) b)
           on {m} b (inr h) = through h b
 
       back : (step ≡ place) ⊎ HappensBefore xs step place → k ≤ joined_clock known n
-      back (inl q) = absurd (both_ways (touches (action_at xs place).cause.event n) f (subst (λ (z : ℕ). touches (action_at xs z).cause.event n ≡ true) q tallied.touched))
+      back (inl q) = absurd (both_ways (touches (trace_action_at xs place).cause.event n) f (subst (λ (z : ℕ). touches (trace_action_at xs z).cause.event n ≡ true) q tallied.touched))
       back (inr h) =
           let m = last_of xs step place h in
           let c = covered m.0 m.2 in
@@ -134,8 +134,8 @@ module _ (xs : List TraceAction) (place : ℕ) (known : List (ℕ × (ℕ → �
           chain {m} {q} (inr e) (inr g) = inr (happens_trans xs step m q e g)
 
   pub clock_of : IsVectorClock xs place (clock_at_place xs place known)
-  clock_of n k step s = go (touches (action_at xs place).cause.event n) refl
+  clock_of n k step s = go (touches (trace_action_at xs place).cause.event n) refl
     where
-      go : (b : Bool) → touches (action_at xs place).cause.event n ≡ b → (k ≤ cond b (count_touching_events n (take (place + 1) (causes_of_actions xs))) (joined_clock known n)) ↔ ((step ≡ place) ⊎ HappensBefore xs step place)
+      go : (b : Bool) → touches (trace_action_at xs place).cause.event n ≡ b → (k ≤ cond b (count_touching_events n (take (place + 1) (events_with_looks_of_trace_actions xs))) (joined_clock known n)) ↔ ((step ≡ place) ⊎ HappensBefore xs step place)
       go true t = own n k step t (tallied_of xs n k step s)
       go false f = of_others n k step f s

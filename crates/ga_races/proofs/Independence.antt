@@ -6,43 +6,43 @@ use Rattle.std.proofs.lemmas.Bool.{cases_Bool, cases_eq, or_left, or_right, or_c
 use Rattle.std.proofs.lemmas.Option.{same_Some}
 use Rattle.ga_ports.specs.declared.side.Side.{Side}
 use Rattle.ga_node.specs.Record.{NodeRecord}
-use Rattle.ga_node.specs.Table.{refusal}
+use Rattle.ga_node.specs.Table.{refusal_of_own_event}
 use Rattle.ga_node.specs.declared.kind.EventRefusal.{EventRefusal}
 use Rattle.ga_grid.specs.declared.node_id.NodeId.{NodeId}
-use Rattle.ga_grid.specs.Chip.{record_at}
+use Rattle.ga_grid.specs.Chip.{node_record_at}
 use Rattle.ga_event.specs.declared.event.Event.{Event}
 use Rattle.ga_event.specs.declared.event.Event.TheVariants.{Own, Pass}
 use Rattle.ga_event.specs.Touches.{event_nodes, touches}
-use Rattle.ga_event.specs.Apply.{EventOutcome, refusal_of, refusal_unless_matched, is_transfer_ready, some_if_allowed, after, apply, replay, AgreeOutsideMarks}
-use Rattle.ga_causal.specs.Words.{received_word, with_received_words, local_history_with_reads}
+use Rattle.ga_event.specs.Apply.{MadeEventOutcome, event_refusal, refusal_unless_matched, is_transfer_ready, some_if_allowed, event_result, apply, replay, AgreeOutsideMarks}
+use Rattle.ga_causal.specs.Words.{outside_word_of_event, events_with_outside_words, local_history_with_outside_words}
 use Rattle.ga_causal.proofs.Runs.{keeps_of, replay-cons}
 use Rattle.ga_causal.proofs.Consistent.{swap_filter}
 use Rattle.ga_causal.proofs.Words.{same_chip}
-use Rattle.ga_races.specs.Orders.{IsEnabled, AreIndependentOn}
+use Rattle.ga_races.specs.Orders.{IsEnabled, AreIndependentOnChip}
 
 -- ---- lists that can be made
 
-pub apply_is : (c : List NodeRecord) (e : Event) → IsEnabled c e → apply c e ≡ Some (after c e)
-apply_is c e can = ap (λ (o : Option EventRefusal). some_if_allowed o (after c e)) can
+pub apply_is : (c : List NodeRecord) (e : Event) → IsEnabled c e → apply c e ≡ Some (event_result c e)
+apply_is c e can = ap (λ (o : Option EventRefusal). some_if_allowed o (event_result c e)) can
 
-pub replay_more : (c : List NodeRecord) (e : Event) (es : List Event) → IsEnabled c e → replay c (e ∷ es) ≡ replay (after c e).0 es
-replay_more c e es can = replay-cons c e es ∙ ap (λ (o : Option (List NodeRecord × EventOutcome)). option_and_then (λ first. replay first.0 es) o) (apply_is c e can)
+pub replay_more : (c : List NodeRecord) (e : Event) (es : List Event) → IsEnabled c e → replay c (e ∷ es) ≡ replay (event_result c e).0 es
+replay_more c e es can = replay-cons c e es ∙ ap (λ (o : Option (List NodeRecord × MadeEventOutcome)). option_and_then (λ first. replay first.0 es) o) (apply_is c e can)
 
 pub record FirstOf (c : List NodeRecord) (e : Event) (es : List Event) (last : List NodeRecord) : Type 0 where
   pub can : IsEnabled c e
-  pub then : replay (after c e).0 es ≡ Some last
+  pub then : replay (event_result c e).0 es ≡ Some last
 
 pub first_of : (c : List NodeRecord) (e : Event) (es : List Event) (last : List NodeRecord) → replay c (e ∷ es) ≡ Some last → FirstOf c e es last
-first_of c e es last h = go (refusal_of c e) refl (sym (replay-cons c e es) ∙ h)
+first_of c e es last h = go (event_refusal c e) refl (sym (replay-cons c e es) ∙ h)
   where
-    go : (o : Option EventRefusal) → refusal_of c e ≡ o → option_and_then (λ (first : List NodeRecord × EventOutcome). replay first.0 es) (some_if_allowed o (after c e)) ≡ Some last → FirstOf c e es last
+    go : (o : Option EventRefusal) → event_refusal c e ≡ o → option_and_then (λ (first : List NodeRecord × MadeEventOutcome). replay first.0 es) (some_if_allowed o (event_result c e)) ≡ Some last → FirstOf c e es last
     go None is k = record { can = is; then = k }
     go (Some why) is k = absurd (cc)
 
 -- ---- what an event leaves elsewhere
 
-pub stays : (c : List NodeRecord) (f : Event) → IsEnabled c f → AgreeOutsideMarks (touches f) c (after c f).0
-stays c f can = keeps_of c f (after c f).0 (after c f).1 (apply_is c f can)
+pub stays : (c : List NodeRecord) (f : Event) → IsEnabled c f → AgreeOutsideMarks (touches f) c (event_result c f).0
+stays c f can = keeps_of c f (event_result c f).0 (event_result c f).1 (apply_is c f can)
 
 pub touches_own : (a : NodeId) → touches (Own a) a.number ≡ true
 touches_own a = grind (arith, eq-eqb)
@@ -54,26 +54,26 @@ pub touches_reader : (w r : NodeId) (s : Side) → touches (Pass w r s) r.number
 touches_reader w r s = grind (arith, eq-eqb)
 
 -- an event is still enabled after another that touches none of its nodes
-pub still_enabled : (c : List NodeRecord) (e f : Event) → ((n : ℕ) → touches e n ≡ true → touches f n ≡ false) → IsEnabled c f → IsEnabled c e → IsEnabled (after c f).0 e
+pub still_enabled : (c : List NodeRecord) (e f : Event) → ((n : ℕ) → touches e n ≡ true → touches f n ≡ false) → IsEnabled c f → IsEnabled c e → IsEnabled (event_result c f).0 e
 still_enabled c (Own a) f apart canf can =
-    ap (λ (z : NodeRecord). refusal z) (sym ((stays c f canf).same a.number (apart a.number (touches_own a)))) ∙ can
+    ap (λ (z : NodeRecord). refusal_of_own_event z) (sym ((stays c f canf).same a.number (apart a.number (touches_own a)))) ∙ can
 still_enabled c (Pass w r side) f apart canf can =
     let k = stays c f canf in
-    let one : record_at c w.number ≡ record_at (after c f).0 w.number = k.same w.number (apart w.number (touches_writer w r side)) in
-    let two : record_at c r.number ≡ record_at (after c f).0 r.number = k.same r.number (apart r.number (touches_reader w r side)) in
-    ap (λ (z : NodeRecord). refusal_unless_matched (is_transfer_ready w.number r.number side z.wait (record_at (after c f).0 r.number).wait)) (sym one)
-    ∙ ap (λ (z : NodeRecord). refusal_unless_matched (is_transfer_ready w.number r.number side (record_at c w.number).wait z.wait)) (sym two)
+    let one : node_record_at c w.number ≡ node_record_at (event_result c f).0 w.number = k.same w.number (apart w.number (touches_writer w r side)) in
+    let two : node_record_at c r.number ≡ node_record_at (event_result c f).0 r.number = k.same r.number (apart r.number (touches_reader w r side)) in
+    ap (λ (z : NodeRecord). refusal_unless_matched (is_transfer_ready w.number r.number side z.wait (node_record_at (event_result c f).0 r.number).wait)) (sym one)
+    ∙ ap (λ (z : NodeRecord). refusal_unless_matched (is_transfer_ready w.number r.number side (node_record_at c w.number).wait z.wait)) (sym two)
     ∙ can
 
 -- and before it
-pub can_back : (c : List NodeRecord) (e f : Event) → ((n : ℕ) → touches e n ≡ true → touches f n ≡ false) → IsEnabled c f → IsEnabled (after c f).0 e → IsEnabled c e
-can_back c (Own a) f apart canf can = ap (λ (z : NodeRecord). refusal z) ((stays c f canf).same a.number (apart a.number (touches_own a))) ∙ can
+pub can_back : (c : List NodeRecord) (e f : Event) → ((n : ℕ) → touches e n ≡ true → touches f n ≡ false) → IsEnabled c f → IsEnabled (event_result c f).0 e → IsEnabled c e
+can_back c (Own a) f apart canf can = ap (λ (z : NodeRecord). refusal_of_own_event z) ((stays c f canf).same a.number (apart a.number (touches_own a))) ∙ can
 can_back c (Pass w r side) f apart canf can =
     let k = stays c f canf in
-    let one : record_at c w.number ≡ record_at (after c f).0 w.number = k.same w.number (apart w.number (touches_writer w r side)) in
-    let two : record_at c r.number ≡ record_at (after c f).0 r.number = k.same r.number (apart r.number (touches_reader w r side)) in
-    ap (λ (z : NodeRecord). refusal_unless_matched (is_transfer_ready w.number r.number side z.wait (record_at c r.number).wait)) one
-    ∙ ap (λ (z : NodeRecord). refusal_unless_matched (is_transfer_ready w.number r.number side (record_at (after c f).0 w.number).wait z.wait)) two
+    let one : node_record_at c w.number ≡ node_record_at (event_result c f).0 w.number = k.same w.number (apart w.number (touches_writer w r side)) in
+    let two : node_record_at c r.number ≡ node_record_at (event_result c f).0 r.number = k.same r.number (apart r.number (touches_reader w r side)) in
+    ap (λ (z : NodeRecord). refusal_unless_matched (is_transfer_ready w.number r.number side z.wait (node_record_at c r.number).wait)) one
+    ∙ ap (λ (z : NodeRecord). refusal_unless_matched (is_transfer_ready w.number r.number side (node_record_at (event_result c f).0 w.number).wait z.wait)) two
     ∙ can
 
 -- ---- whether two events are free
@@ -106,16 +106,16 @@ same_word (Some x) (Some y) = elim (cases_eq x y) [ inl q ↦ inl (ap Some q) | 
 pub independent_of : (e f : Event) → list_any (touches e) (event_nodes f) ≡ false → (n : ℕ) → touches e n ≡ true → touches f n ≡ false
 independent_of e f none n t = false_from_ne_true (touches f n) (λ u. both_ways (list_any (touches e) (event_nodes f)) none (any_at (touches e) (event_nodes f) n u t))
 
-pub free_or_bound : (c : List NodeRecord) (e f : Event) → AreIndependentOn c e f ⊎ (AreIndependentOn c e f → ⊥)
+pub free_or_bound : (c : List NodeRecord) (e f : Event) → AreIndependentOnChip c e f ⊎ (AreIndependentOnChip c e f → ⊥)
 free_or_bound c e f = elim (cases_Bool (list_any (touches e) (event_nodes f))) [
   | inl t ↦ (let k = any_of (touches e) (event_nodes f) t in inr (λ free. both_ways (touches f k.node) (free.apart k.node k.marked_nodes) k.listed))
   | inr none ↦ by_words none
 ]
   where
-    by_words : list_any (touches e) (event_nodes f) ≡ false → AreIndependentOn c e f ⊎ (AreIndependentOn c e f → ⊥)
-    by_words none = elim (same_word (received_word (after c f).0 e) (received_word c e)) [
+    by_words : list_any (touches e) (event_nodes f) ≡ false → AreIndependentOnChip c e f ⊎ (AreIndependentOnChip c e f → ⊥)
+    by_words none = elim (same_word (outside_word_of_event (event_result c f).0 e) (outside_word_of_event c e)) [
       | inr ne ↦ inr (λ free. ne free.first)
-      | inl p ↦ elim (same_word (received_word (after c e).0 f) (received_word c f)) [
+      | inl p ↦ elim (same_word (outside_word_of_event (event_result c e).0 f) (outside_word_of_event c f)) [
         | inr ne ↦ inr (λ free. ne free.second)
         | inl q ↦ inl (record { apart = independent_of e f none; first = p; second = q })
       ]
@@ -124,43 +124,43 @@ free_or_bound c e f = elim (cases_Bool (list_any (touches e) (event_nodes f))) [
 pub apart-sym : (e f : Event) → ((n : ℕ) → touches e n ≡ true → touches f n ≡ false) → (n : ℕ) → touches f n ≡ true → touches e n ≡ false
 apart-sym e f apart n t = false_from_ne_true (touches e n) (λ u. both_ways (touches f n) (apart n u) t)
 
-pub free-sym : (c : List NodeRecord) (e f : Event) → AreIndependentOn c e f → AreIndependentOn c f e
+pub free-sym : (c : List NodeRecord) (e f : Event) → AreIndependentOnChip c e f → AreIndependentOnChip c f e
 free-sym c e f free = record { apart = apart-sym e f free.apart; first = free.second; second = free.first }
 
 -- ---- free events in either order
 
 -- the chip after both
 pub both : List NodeRecord → Event → Event → List NodeRecord
-both c e f = (after (after c e).0 f).0
+both c e f = (event_result (event_result c e).0 f).0
 
-read_two : (c : List NodeRecord) (e f : Event) (zs : List Event) (n : ℕ) → AreIndependentOn c e f → local_history_with_reads n c (e ∷ f ∷ zs) ≡ filter (λ (x : Event × Option ℕ). touches x.0 n) ((e, received_word c e) ∷ (f, received_word c f) ∷ with_received_words (after (after c e).0 f).0 zs)
+read_two : (c : List NodeRecord) (e f : Event) (zs : List Event) (n : ℕ) → AreIndependentOnChip c e f → local_history_with_outside_words n c (e ∷ f ∷ zs) ≡ filter (λ (x : Event × Option ℕ). touches x.0 n) ((e, outside_word_of_event c e) ∷ (f, outside_word_of_event c f) ∷ events_with_outside_words (event_result (event_result c e).0 f).0 zs)
 read_two c e f zs n free =
-    ap (λ (w : Option ℕ). filter (λ (x : Event × Option ℕ). touches x.0 n) ((e, received_word c e) ∷ (f, w) ∷ with_received_words (after (after c e).0 f).0 zs)) free.second
+    ap (λ (w : Option ℕ). filter (λ (x : Event × Option ℕ). touches x.0 n) ((e, outside_word_of_event c e) ∷ (f, w) ∷ events_with_outside_words (event_result (event_result c e).0 f).0 zs)) free.second
 
-pub read_swapped : (c : List NodeRecord) (e f : Event) (zs : List Event) (n : ℕ) → AreIndependentOn c e f → (after (after c e).0 f).0 ≡ (after (after c f).0 e).0 → local_history_with_reads n c (e ∷ f ∷ zs) ≡ local_history_with_reads n c (f ∷ e ∷ zs)
+pub read_swapped : (c : List NodeRecord) (e f : Event) (zs : List Event) (n : ℕ) → AreIndependentOnChip c e f → (event_result (event_result c e).0 f).0 ≡ (event_result (event_result c f).0 e).0 → local_history_with_outside_words n c (e ∷ f ∷ zs) ≡ local_history_with_outside_words n c (f ∷ e ∷ zs)
 read_swapped c e f zs n free same =
     let test : Event × Option ℕ → Bool = λ x. touches x.0 n in
     read_two c e f zs n free
-    ∙ ap (λ (d : List NodeRecord). filter test ((e, received_word c e) ∷ (f, received_word c f) ∷ with_received_words d zs)) same
-    ∙ swap_filter test (e, received_word c e) (f, received_word c f) (with_received_words (after (after c f).0 e).0 zs) (λ t u. both_ways (touches f n) (free.apart n t) u)
+    ∙ ap (λ (d : List NodeRecord). filter test ((e, outside_word_of_event c e) ∷ (f, outside_word_of_event c f) ∷ events_with_outside_words d zs)) same
+    ∙ swap_filter test (e, outside_word_of_event c e) (f, outside_word_of_event c f) (events_with_outside_words (event_result (event_result c f).0 e).0 zs) (λ t u. both_ways (touches f n) (free.apart n t) u)
     ∙ sym (read_two c f e zs n (free-sym c e f free))
 
-pub replay_two : (c : List NodeRecord) (e f : Event) → IsEnabled c e → IsEnabled c f → AreIndependentOn c e f → replay c (e ∷ f ∷ []) ≡ Some (after (after c e).0 f).0
+pub replay_two : (c : List NodeRecord) (e f : Event) → IsEnabled c e → IsEnabled c f → AreIndependentOnChip c e f → replay c (e ∷ f ∷ []) ≡ Some (event_result (event_result c e).0 f).0
 replay_two c e f cane canf free =
-    replay_more c e (f ∷ []) cane ∙ replay_more (after c e).0 f [] (still_enabled c f e (apart-sym e f free.apart) cane canf)
+    replay_more c e (f ∷ []) cane ∙ replay_more (event_result c e).0 f [] (still_enabled c f e (apart-sym e f free.apart) cane canf)
 
 -- the chip is the same
-pub independent_on_chip : (c : List NodeRecord) (e f : Event) → IsEnabled c e → IsEnabled c f → AreIndependentOn c e f → (after (after c e).0 f).0 ≡ (after (after c f).0 e).0
+pub independent_on_chip : (c : List NodeRecord) (e f : Event) → IsEnabled c e → IsEnabled c f → AreIndependentOnChip c e f → (event_result (event_result c e).0 f).0 ≡ (event_result (event_result c f).0 e).0
 independent_on_chip c e f cane canf free =
-    same_chip c (after (after c e).0 f).0 (after (after c f).0 e).0 (e ∷ f ∷ []) (f ∷ e ∷ [])
+    same_chip c (event_result (event_result c e).0 f).0 (event_result (event_result c f).0 e).0 (e ∷ f ∷ []) (f ∷ e ∷ [])
     (replay_two c e f cane canf free) (replay_two c f e canf cane (free-sym c e f free))
     (λ n. read_two c e f [] n free
-    ∙ swap_filter (λ (x : Event × Option ℕ). touches x.0 n) (e, received_word c e) (f, received_word c f) [] (λ t u. both_ways (touches f n) (free.apart n t) u)
+    ∙ swap_filter (λ (x : Event × Option ℕ). touches x.0 n) (e, outside_word_of_event c e) (f, outside_word_of_event c f) [] (λ t u. both_ways (touches f n) (free.apart n t) u)
     ∙ sym (read_two c f e [] n (free-sym c e f free)))
 
 -- and so is the list after them
-pub free_replay : (c : List NodeRecord) (e f : Event) (zs : List Event) → IsEnabled c e → IsEnabled c f → AreIndependentOn c e f → replay c (e ∷ f ∷ zs) ≡ replay c (f ∷ e ∷ zs)
+pub free_replay : (c : List NodeRecord) (e f : Event) (zs : List Event) → IsEnabled c e → IsEnabled c f → AreIndependentOnChip c e f → replay c (e ∷ f ∷ zs) ≡ replay c (f ∷ e ∷ zs)
 free_replay c e f zs cane canf free =
-    replay_more c e (f ∷ zs) cane ∙ replay_more (after c e).0 f zs (still_enabled c f e (apart-sym e f free.apart) cane canf)
+    replay_more c e (f ∷ zs) cane ∙ replay_more (event_result c e).0 f zs (still_enabled c f e (apart-sym e f free.apart) cane canf)
     ∙ ap (λ d. replay d zs) (independent_on_chip c e f cane canf free)
-    ∙ sym (replay_more (after c f).0 e zs (still_enabled c e f free.apart canf cane)) ∙ sym (replay_more c f (e ∷ zs) canf)
+    ∙ sym (replay_more (event_result c f).0 e zs (still_enabled c e f free.apart canf cane)) ∙ sym (replay_more c f (e ∷ zs) canf)

@@ -8,28 +8,28 @@ use Rattle.ga_ports.specs.declared.side.Side.{Side}
 use Rattle.ga_ports.specs.declared.side.Side.TheVariants.{Right, Down, Left, Up}
 use Rattle.ga_ports.specs.Address.{has_side}
 use Rattle.ga_node.specs.Record.{NodeRecord}
-use Rattle.ga_node.specs.Table.{wait_refusal, refusal}
+use Rattle.ga_node.specs.Table.{wait_refusal, refusal_of_own_event}
 use Rattle.ga_node.specs.declared.kind.EventRefusal.TheVariants.{Stopped}
 use Rattle.ga_node.specs.declared.wait.Wait.{Wait}
 use Rattle.ga_node.specs.declared.wait.Wait.TheVariants.{Nothing, Fetch, Read, Write}
 use Rattle.ga_grid.specs.declared.node_id.NodeId.{NodeId}
-use Rattle.ga_grid.specs.Grid.{node_id, neighbour_of}
-use Rattle.ga_grid.specs.Chip.{record_at}
-use Rattle.ga_grid.proofs.NodeIds.{neighbour_of-back}
+use Rattle.ga_grid.specs.Grid.{node_id, neighbour_number}
+use Rattle.ga_grid.specs.Chip.{node_record_at}
+use Rattle.ga_grid.proofs.NodeIds.{neighbour_number-back}
 use Rattle.ga_event.specs.declared.event.Event.{Event}
 use Rattle.ga_event.specs.declared.event.Event.TheVariants.{Own, Pass}
-use Rattle.ga_event.specs.Apply.{EventOutcome, waits_to_write_side, waits_to_read_side, apply, AgreeOutsideMarks}
-use Rattle.ga_event.specs.Next.{neighbour_on_side, writer_pass, reader_pass, reader_pass_over, or_else, first_pass_over, ok_or_waiting, next_event_by_wait, next}
+use Rattle.ga_event.specs.Apply.{MadeEventOutcome, waits_to_write_side, waits_to_read_side, apply, AgreeOutsideMarks}
+use Rattle.ga_event.specs.Next.{neighbour_on_side, writer_pass, reader_pass, reader_pass_over_set, or_else, first_pass_over_sides, ok_or_waiting, next_event_by_wait, next_event_of_node}
 use Rattle.ga_event.specs.Touches.{touches}
 use Rattle.ga_event.proofs.Locality.{apply_keeps}
 use Rattle.ga_races.specs.HappensBefore.{IsMarkedOrNeighbour}
-use Rattle.ga_event.proofs.Nexts.{neighbour_of-within as neighbour_within}
+use Rattle.ga_event.proofs.Nexts.{neighbour_number-within as neighbour_within}
 
 abbrev wait_at : List NodeRecord → ℕ → Wait
-wait_at chip n = (record_at chip n).wait
+wait_at chip n = (node_record_at chip n).wait
 
 abbrev stop_at : List NodeRecord → ℕ → ℕ
-stop_at chip n = (record_at chip n).stop
+stop_at chip n = (node_record_at chip n).stop
 
 -- the neighbours of a node have the same waits on two chips
 abbrev SameBeside : List NodeRecord → List NodeRecord → NodeId → Side → Type 0
@@ -49,11 +49,11 @@ pass_from_same : (c d : List NodeRecord) (r : NodeId) (side : Side) (o : Option 
 pass_from_same c d r side None h = refl
 pass_from_same c d r side (Some m) h = ap (λ (z : Wait). cond (waits_to_write_side z side) (Some (Pass m r side)) None) (h m refl)
 
-first_over_same : (c d : List NodeRecord) (r : NodeId) (sides : ℕ) (order : List Side) → ((side : Side) → SameBeside c d r side) → first_pass_over c r sides order ≡ first_pass_over d r sides order
+first_over_same : (c d : List NodeRecord) (r : NodeId) (sides : ℕ) (order : List Side) → ((side : Side) → SameBeside c d r side) → first_pass_over_sides c r sides order ≡ first_pass_over_sides d r sides order
 first_over_same c d r sides [] h = refl
 first_over_same c d r sides (side ∷ others) h =
-    ap (λ (z : Option Event). or_else (cond (has_side sides side) z None) (first_pass_over c r sides others)) (pass_from_same c d r side (neighbour_on_side r side) (h side))
-    ∙ ap (or_else (reader_pass_over d r sides side)) (first_over_same c d r sides others h)
+    ap (λ (z : Option Event). or_else (cond (has_side sides side) z None) (first_pass_over_sides c r sides others)) (pass_from_same c d r side (neighbour_on_side r side) (h side))
+    ∙ ap (or_else (reader_pass_over_set d r sides side)) (first_over_same c d r sides others h)
 
 by_wait_same : (c d : List NodeRecord) (n : NodeId) (stop : ℕ) (w : Wait) → ((side : Side) → SameBeside c d n side) → next_event_by_wait c n stop w ≡ next_event_by_wait d n stop w
 by_wait_same c d n stop Nothing h = refl
@@ -61,7 +61,7 @@ by_wait_same c d n stop (Fetch sides) h = ap ok_or_waiting (first_over_same c d 
 by_wait_same c d n stop (Read sides) h = ap ok_or_waiting (first_over_same c d n sides (Right ∷ Down ∷ Left ∷ Up ∷ []) h)
 by_wait_same c d n stop (Write side) h = ap ok_or_waiting (pass_to_same c d n side (neighbour_on_side n side) (h side))
 
-next_same : (c d : List NodeRecord) (n : NodeId) → SameAround c d n → next c n ≡ next d n
+next_same : (c d : List NodeRecord) (n : NodeId) → SameAround c d n → next_event_of_node c n ≡ next_event_of_node d n
 next_same c d n s =
     ap (λ z. next_event_by_wait c n z (wait_at c n.number)) s.stop
     ∙ ap (next_event_by_wait c n (stop_at d n.number)) s.wait
@@ -69,16 +69,16 @@ next_same c d n s =
 
 -- A neighbour is marked, or waits for the same on both.
 
-marked_beside : (marks : ℕ → Bool) (c d : List NodeRecord) (n : NodeId) (side : Side) (o : Option ℕ) → AgreeOutsideMarks marks c d → neighbour_of n.number side ≡ o
+marked_beside : (marks : ℕ → Bool) (c d : List NodeRecord) (n : NodeId) (side : Side) (o : Option ℕ) → AgreeOutsideMarks marks c d → neighbour_number n.number side ≡ o
     → IsMarkedOrNeighbour marks n.number ⊎ ((m : NodeId) → option_map node_id o ≡ Some m → wait_at c m.number ≡ wait_at d m.number)
 marked_beside marks c d n side None a is = inr (λ m h. absurd (cc))
 marked_beside marks c d n side (Some k) a is = ⊎_elim
-    (λ t. inl (k, t, inr (side, neighbour_of-back n.number k side n.in_range is)))
+    (λ t. inl (k, t, inr (side, neighbour_number-back n.number k side n.in_range is)))
     (λ f. inr (λ m h. ap (λ (z : NodeRecord). z.wait)
     (a.same m.number (ap marks (sym (ap (λ (z : NodeId). z.number) (same_Some (node_id k) m h)) ∙ mod-eq_of_lt (neighbour_within n.number k side n.in_range is)) ∙ f))))
     (cases_Bool (marks k))
 
-pub near_or_same : (marks : ℕ → Bool) (c d : List NodeRecord) (n : NodeId) → AgreeOutsideMarks marks c d → IsMarkedOrNeighbour marks n.number ⊎ (next c n ≡ next d n)
+pub near_or_same : (marks : ℕ → Bool) (c d : List NodeRecord) (n : NodeId) → AgreeOutsideMarks marks c d → IsMarkedOrNeighbour marks n.number ⊎ (next_event_of_node c n ≡ next_event_of_node d n)
 near_or_same marks c d n a = ⊎_elim
     (λ t. inl (n.number, t, inl refl))
     (λ f. ⊎_elim inl (λ right. ⊎_elim inl (λ down. ⊎_elim inl (λ left. ⊎_elim inl (λ up. inr (next_same c d n (around f right down left up)))
@@ -86,7 +86,7 @@ near_or_same marks c d n a = ⊎_elim
     (cases_Bool (marks n.number))
   where
     side_of : (side : Side) → IsMarkedOrNeighbour marks n.number ⊎ SameBeside c d n side
-    side_of side = marked_beside marks c d n side (neighbour_of n.number side) a refl
+    side_of side = marked_beside marks c d n side (neighbour_number n.number side) a refl
 
     by_side : SameBeside c d n Right → SameBeside c d n Down → SameBeside c d n Left → SameBeside c d n Up → (side : Side) → SameBeside c d n side
     by_side right down left up Right = right
@@ -101,10 +101,10 @@ near_or_same marks c d n a = ⊎_elim
       near = by_side right down left up;
     }
 
-pub changes_near : (c : List NodeRecord) (e : Event) → IfSome (apply c e) (λ done. (n : NodeId) → IsMarkedOrNeighbour (touches e) n.number ⊎ (next c n ≡ next done.0 n))
+pub changes_near : (c : List NodeRecord) (e : Event) → IfSome (apply c e) (λ done. (n : NodeId) → IsMarkedOrNeighbour (touches e) n.number ⊎ (next_event_of_node c n ≡ next_event_of_node done.0 n))
 changes_near c e = go (apply c e) (apply_keeps c e)
   where
-    go : (o : Option (List NodeRecord × EventOutcome)) → IfSome o (λ done. AgreeOutsideMarks (touches e) c done.0) → IfSome o (λ done. (n : NodeId) → IsMarkedOrNeighbour (touches e) n.number ⊎ (next c n ≡ next done.0 n))
+    go : (o : Option (List NodeRecord × MadeEventOutcome)) → IfSome o (λ done. AgreeOutsideMarks (touches e) c done.0) → IfSome o (λ done. (n : NodeId) → IsMarkedOrNeighbour (touches e) n.number ⊎ (next_event_of_node c n ≡ next_event_of_node done.0 n))
     go None h = tt
     go (Some done) h = λ n. near_or_same (touches e) c done.0 n h
 
@@ -123,7 +123,7 @@ runs (Fetch sides) stop h = absurd (cc)
 runs (Read sides) stop h = absurd (cc)
 runs (Write side) stop h = absurd (cc)
 
-pub runs_on : (c d : List NodeRecord) (at m : NodeId) → AgreeOutsideMarks (touches (Own at)) c d → refusal (record_at c at.number) ≡ None → refusal (record_at d at.number) ≡ None → next c m ≡ next d m
+pub runs_on : (c d : List NodeRecord) (at m : NodeId) → AgreeOutsideMarks (touches (Own at)) c d → refusal_of_own_event (node_record_at c at.number) ≡ None → refusal_of_own_event (node_record_at d at.number) ≡ None → next_event_of_node c m ≡ next_event_of_node d m
 runs_on c d at m a before now = next_same c d m (record { wait = (same m.number).0; stop = (same m.number).1; near = λ side k h. (same k.number).0 })
   where
     was : Runs (wait_at c at.number) (stop_at c at.number)

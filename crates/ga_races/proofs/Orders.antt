@@ -6,11 +6,11 @@ use Rattle.std.proofs.lemmas.Option.{same_Some}
 use Rattle.ga_node.specs.Record.{NodeRecord}
 use Rattle.ga_event.specs.declared.event.Event.{Event}
 use Rattle.ga_event.specs.Touches.{touches}
-use Rattle.ga_event.specs.Apply.{after, replay}
+use Rattle.ga_event.specs.Apply.{event_result, replay}
 use Rattle.ga_event.specs.Told.{count_steps}
-use Rattle.ga_causal.specs.Words.{received_word, local_history_with_reads}
+use Rattle.ga_causal.specs.Words.{outside_word_of_event, local_history_with_outside_words}
 use Rattle.ga_causal.proofs.Equivalences.{touched_of}
-use Rattle.ga_races.specs.Orders.{IsEnabled, IsTerminalChip, AreIndependentOn, AreReorderings, same, swapped, later, joined, HasNoRace}
+use Rattle.ga_races.specs.Orders.{IsEnabled, IsTerminalChip, AreIndependentOnChip, AreReorderings, same, swapped, later, joined, HasNoRace}
 use Rattle.ga_races.proofs.Independence.{replay_more, first_of, still_enabled, free_or_bound, independent_on_chip, free_replay, read_swapped, replay_two}
 use Rattle.ga_races.proofs.Conflicts.{actor, one_event}
 
@@ -27,14 +27,14 @@ is_some_of o d h = subst (λ (z : Option (List NodeRecord)). IsSome z) (sym h) r
 pub order_replay : (c : List NodeRecord) (xs ys : List Event) → AreReorderings c xs ys → replay c xs ≡ replay c ys
 order_replay c xs ys same = refl
 order_replay c xs ys (swapped {e} {f} {xs = zs} cane canf free) = free_replay c e f zs cane canf free
-order_replay c xs ys (later {e} {xs = us} {ys = vs} can h) = replay_more c e us can ∙ order_replay (after c e).0 us vs h ∙ sym (replay_more c e vs can)
+order_replay c xs ys (later {e} {xs = us} {ys = vs} can h) = replay_more c e us can ∙ order_replay (event_result c e).0 us vs h ∙ sym (replay_more c e vs can)
 order_replay c xs ys (joined {ys = zs} h k) = order_replay c xs zs h ∙ order_replay c zs ys k
 
 -- in which each node has the same local history with the same words
-pub order_read : (n : ℕ) (c : List NodeRecord) (xs ys : List Event) → AreReorderings c xs ys → local_history_with_reads n c xs ≡ local_history_with_reads n c ys
+pub order_read : (n : ℕ) (c : List NodeRecord) (xs ys : List Event) → AreReorderings c xs ys → local_history_with_outside_words n c xs ≡ local_history_with_outside_words n c ys
 order_read n c xs ys same = refl
 order_read n c xs ys (swapped {e} {f} {xs = zs} cane canf free) = read_swapped c e f zs n free (independent_on_chip c e f cane canf free)
-order_read n c xs ys (later {e} {xs = us} {ys = vs} can h) = ap (λ (z : List (Event × Option ℕ)). cond (touches e n) ((e, received_word c e) ∷ z) z) (order_read n (after c e).0 us vs h)
+order_read n c xs ys (later {e} {xs = us} {ys = vs} can h) = ap (λ (z : List (Event × Option ℕ)). cond (touches e n) ((e, outside_word_of_event c e) ∷ z) z) (order_read n (event_result c e).0 us vs h)
 order_read n c xs ys (joined {ys = zs} h k) = order_read n c xs zs h ∙ order_read n c zs ys k
 
 -- ---- races
@@ -51,7 +51,7 @@ no_race-order c xs ys a calm step other r = calm step other (record {
   bound = r.bound;
 })
 
-pub no_race-tail : (c : List NodeRecord) (e : Event) (es : List Event) → IsEnabled c e → HasNoRace c (e ∷ es) → HasNoRace (after c e).0 es
+pub no_race-tail : (c : List NodeRecord) (e : Event) (es : List Event) → IsEnabled c e → HasNoRace c (e ∷ es) → HasNoRace (event_result c e).0 es
 no_race-tail c e es can calm step other r = calm step other (record {
   before = e ∷ r.before;
   later = r.later;
@@ -71,10 +71,10 @@ pub record IsFirst (c : List NodeRecord) (es : List Event) (e : Event) : Type 0 
 
 pub record IsSpared (c : List NodeRecord) (es : List Event) (e : Event) (last : List NodeRecord) : Type 0 where
   pub can : IsEnabled last e
-  pub none : (n : ℕ) → touches e n ≡ true → local_history_with_reads n c es ≡ []
+  pub none : (n : ℕ) → touches e n ≡ true → local_history_with_outside_words n c es ≡ []
 
-untouched : (c : List NodeRecord) (f : Event) (es : List Event) (n : ℕ) → touches f n ≡ false → local_history_with_reads n (after c f).0 es ≡ [] → local_history_with_reads n c (f ∷ es) ≡ []
-untouched c f es n t h = ap (λ (b : Bool). cond b ((f, received_word c f) ∷ local_history_with_reads n (after c f).0 es) (local_history_with_reads n (after c f).0 es)) t ∙ h
+untouched : (c : List NodeRecord) (f : Event) (es : List Event) (n : ℕ) → touches f n ≡ false → local_history_with_outside_words n (event_result c f).0 es ≡ [] → local_history_with_outside_words n c (f ∷ es) ≡ []
+untouched c f es n t h = ap (λ (b : Bool). cond b ((f, outside_word_of_event c f) ∷ local_history_with_outside_words n (event_result c f).0 es) (local_history_with_outside_words n (event_result c f).0 es)) t ∙ h
 
 pub brought : (es : List Event) (c last : List NodeRecord) (e : Event) → replay c es ≡ Some last → HasNoRace c es → IsEnabled c e → IsFirst c es e ⊎ IsSpared c es e last
 brought [] c last e is calm can = inr (record { can = subst (λ z. IsEnabled z e) (same_Some c last is) can; none = λ n t. refl })
@@ -93,14 +93,14 @@ brought (f ∷ es) c last e is calm can =
           differ = λ q. ne (ap actor q);
           bound = bound;
         }))
-        | inl free ↦ apart free p.can (brought es (after c f).0 last e p.then (no_race-tail c f es p.can calm) (still_enabled c e f (backwards free) p.can can))
+        | inl free ↦ apart free p.can (brought es (event_result c f).0 last e p.then (no_race-tail c f es p.can calm) (still_enabled c e f (backwards free) p.can can))
       ]
     ]
   where
-    backwards : AreIndependentOn c f e → (n : ℕ) → touches e n ≡ true → touches f n ≡ false
+    backwards : AreIndependentOnChip c f e → (n : ℕ) → touches e n ≡ true → touches f n ≡ false
     backwards free n t = false_from_ne_true (touches f n) (λ u. both_ways (touches e n) (free.apart n u) t)
 
-    apart : AreIndependentOn c f e → IsEnabled c f → IsFirst (after c f).0 es e ⊎ IsSpared (after c f).0 es e last → IsFirst c (f ∷ es) e ⊎ IsSpared c (f ∷ es) e last
+    apart : AreIndependentOnChip c f e → IsEnabled c f → IsFirst (event_result c f).0 es e ⊎ IsSpared (event_result c f).0 es e last → IsFirst c (f ∷ es) e ⊎ IsSpared c (f ∷ es) e last
     apart free canf (inl b) = inl (record { others = f ∷ b.others; order = joined (later canf b.order) (swapped canf can free) })
     apart free canf (inr s) = inr (record { can = s.can; none = λ n t. untouched c f es n (backwards free n t) (s.none n t) })
 
@@ -109,28 +109,28 @@ brought (f ∷ es) c last e is calm can =
 abbrev pub Completed : List NodeRecord → List Event → List Event → Type 0
 Completed c es fs = (others : List Event) × AreReorderings c es (fs ++ others)
 
-completed-cons : (c : List NodeRecord) (es : List Event) (e : Event) (rest fs : List Event) → IsEnabled c e → AreReorderings c es (e ∷ rest) → Completed (after c e).0 rest fs → Completed c es (e ∷ fs)
+completed-cons : (c : List NodeRecord) (es : List Event) (e : Event) (rest fs : List Event) → IsEnabled c e → AreReorderings c es (e ∷ rest) → Completed (event_result c e).0 rest fs → Completed c es (e ∷ fs)
 completed-cons c es e rest fs can a b = (b.0, joined a (later can b.1))
 
 -- that calm node makes more steps than in the list
 abbrev pub Within : List NodeRecord → List Event → List Event → Type 0
-Within c es fs = (n : ℕ) → length (local_history_with_reads n c fs) ≤ length (local_history_with_reads n c es)
+Within c es fs = (n : ℕ) → length (local_history_with_outside_words n c fs) ≤ length (local_history_with_outside_words n c es)
 
-within-tail : (c : List NodeRecord) (es : List Event) (e : Event) (rest fs : List Event) → AreReorderings c es (e ∷ rest) → Within c es (e ∷ fs) → Within (after c e).0 rest fs
+within-tail : (c : List NodeRecord) (es : List Event) (e : Event) (rest fs : List Event) → AreReorderings c es (e ∷ rest) → Within c es (e ∷ fs) → Within (event_result c e).0 rest fs
 within-tail c es e rest fs a w n =
-    go (touches e n) (subst (λ (z : List (Event × Option ℕ)). length (local_history_with_reads n c (e ∷ fs)) ≤ length z) (order_read n c es (e ∷ rest) a) (w n))
+    go (touches e n) (subst (λ (z : List (Event × Option ℕ)). length (local_history_with_outside_words n c (e ∷ fs)) ≤ length z) (order_read n c es (e ∷ rest) a) (w n))
   where
     d : List NodeRecord
-    d = (after c e).0
+    d = (event_result c e).0
 
-    go : (b : Bool) → length (cond b ((e, received_word c e) ∷ local_history_with_reads n (after c e).0 fs) (local_history_with_reads n (after c e).0 fs)) ≤ length (cond b ((e, received_word c e) ∷ local_history_with_reads n (after c e).0 rest) (local_history_with_reads n (after c e).0 rest)) → length (local_history_with_reads n (after c e).0 fs) ≤ length (local_history_with_reads n (after c e).0 rest)
+    go : (b : Bool) → length (cond b ((e, outside_word_of_event c e) ∷ local_history_with_outside_words n (event_result c e).0 fs) (local_history_with_outside_words n (event_result c e).0 fs)) ≤ length (cond b ((e, outside_word_of_event c e) ∷ local_history_with_outside_words n (event_result c e).0 rest) (local_history_with_outside_words n (event_result c e).0 rest)) → length (local_history_with_outside_words n (event_result c e).0 fs) ≤ length (local_history_with_outside_words n (event_result c e).0 rest)
     go true h = omega (arith, h)
     go false h = h
 
-not_within : (c : List NodeRecord) (es : List Event) (e : Event) (fs : List Event) (n : ℕ) → touches e n ≡ true → local_history_with_reads n c es ≡ [] → Within c es (e ∷ fs) → ⊥
-not_within c es e fs n t none w = go (touches e n) t (subst (λ (z : List (Event × Option ℕ)). length (local_history_with_reads n c (e ∷ fs)) ≤ length z) none (w n))
+not_within : (c : List NodeRecord) (es : List Event) (e : Event) (fs : List Event) (n : ℕ) → touches e n ≡ true → local_history_with_outside_words n c es ≡ [] → Within c es (e ∷ fs) → ⊥
+not_within c es e fs n t none w = go (touches e n) t (subst (λ (z : List (Event × Option ℕ)). length (local_history_with_outside_words n c (e ∷ fs)) ≤ length z) none (w n))
   where
-    go : (b : Bool) → b ≡ true → length (cond b ((e, received_word c e) ∷ local_history_with_reads n (after c e).0 fs) (local_history_with_reads n (after c e).0 fs)) ≤ 0 → ⊥
+    go : (b : Bool) → b ≡ true → length (cond b ((e, outside_word_of_event c e) ∷ local_history_with_outside_words n (event_result c e).0 fs) (local_history_with_outside_words n (event_result c e).0 fs)) ≤ 0 → ⊥
     go true k h = omega (arith, h)
     go false k h = both_ways false refl k
 
@@ -143,7 +143,7 @@ completed_within (e ∷ fs) es c last now k h calm w =
       | inl b ↦ (let there = some_of (replay c (e ∷ b.others)) (is_some_of (replay c (e ∷ b.others)) last (sym (order_replay c es (e ∷ b.others) b.order) ∙ h)) in
           let q = first_of c e b.others there.0 there.1 in
           completed-cons c es e b.others fs p.can b.order
-          (completed_within fs b.others (after c e).0 there.0 now p.then q.then (no_race-tail c e b.others p.can (no_race-order c es (e ∷ b.others) b.order calm)) (within-tail c es e b.others fs b.order w)))
+          (completed_within fs b.others (event_result c e).0 there.0 now p.then q.then (no_race-tail c e b.others p.can (no_race-order c es (e ∷ b.others) b.order calm)) (within-tail c es e b.others fs b.order w)))
     ]
 
 pub completed_quiet : (fs es : List Event) (c last now : List NodeRecord) → replay c fs ≡ Some now → replay c es ≡ Some last → HasNoRace c es → IsTerminalChip last → Completed c es fs
@@ -156,7 +156,7 @@ completed_quiet (e ∷ fs) es c last now k h calm end =
           let q = first_of c e b.others there.0 there.1 in
           let at : there.0 ≡ last = same_Some there.0 last (sym there.1 ∙ sym (order_replay c es (e ∷ b.others) b.order) ∙ h) in
           completed-cons c es e b.others fs p.can b.order
-          (completed_quiet fs b.others (after c e).0 last now p.then (q.then ∙ ap (λ (z : List NodeRecord). Some z) at) (no_race-tail c e b.others p.can (no_race-order c es (e ∷ b.others) b.order calm)) end))
+          (completed_quiet fs b.others (event_result c e).0 last now p.then (q.then ∙ ap (λ (z : List NodeRecord). Some z) at) (no_race-tail c e b.others p.can (no_race-order c es (e ∷ b.others) b.order calm)) end))
     ]
 
 -- ---- ends
@@ -168,7 +168,7 @@ enabled_after [] c now e others k some =
     subst (λ z. IsEnabled z e) (same_Some c now k) (first_of c e others there.0 there.1).can
 enabled_after (f ∷ fs) c now e others k some =
     let p = first_of c f fs now k in
-    enabled_after fs (after c f).0 now e others p.then (subst (λ (o : Option (List NodeRecord)). IsSome o) (replay_more c f (fs ++ e ∷ others) p.can) some)
+    enabled_after fs (event_result c f).0 now e others p.then (subst (λ (o : Option (List NodeRecord)). IsSome o) (replay_more c f (fs ++ e ∷ others) p.can) some)
 
 pub race_free_end_is_unique : (c last now : List NodeRecord) (es fs : List Event) → replay c es ≡ Some last → HasNoRace c es → IsTerminalChip last → replay c fs ≡ Some now → IsTerminalChip now → AreReorderings c es fs
 race_free_end_is_unique c last now es fs h calm end k stop = go (completed_quiet fs es c last now k h calm end)
@@ -180,31 +180,31 @@ race_free_end_is_unique c last now es fs h calm end k stop = go (completed_quiet
 -- ---- steps
 
 -- a local history has the steps of its node
-pub steps_read : (n : ℕ) (c : List NodeRecord) (es : List Event) → length (local_history_with_reads n c es) ≡ count_steps n es
+pub steps_read : (n : ℕ) (c : List NodeRecord) (es : List Event) → length (local_history_with_outside_words n c es) ≡ count_steps n es
 steps_read n c [] = refl
-steps_read n c (e ∷ es) = go (touches e n) (steps_read n (after c e).0 es) ∙ sym (sum_by-cons (λ (x : Event). cond (touches x n) 1 0) e es)
+steps_read n c (e ∷ es) = go (touches e n) (steps_read n (event_result c e).0 es) ∙ sym (sum_by-cons (λ (x : Event). cond (touches x n) 1 0) e es)
   where
-    go : (b : Bool) → length (local_history_with_reads n (after c e).0 es) ≡ count_steps n es → length (cond b ((e, received_word c e) ∷ local_history_with_reads n (after c e).0 es) (local_history_with_reads n (after c e).0 es)) ≡ cond b 1 0 + count_steps n es
+    go : (b : Bool) → length (local_history_with_outside_words n (event_result c e).0 es) ≡ count_steps n es → length (cond b ((e, outside_word_of_event c e) ∷ local_history_with_outside_words n (event_result c e).0 es) (local_history_with_outside_words n (event_result c e).0 es)) ≡ cond b 1 0 + count_steps n es
     go true h = omega (arith, h)
     go false h = omega (arith, h)
 
 -- the local history of a prefix is a prefix of the local history
-pub read_first : (n : ℕ) (c : List NodeRecord) (fs others : List Event) → (d : List NodeRecord) × (local_history_with_reads n c (fs ++ others) ≡ local_history_with_reads n c fs ++ local_history_with_reads n d others)
+pub read_first : (n : ℕ) (c : List NodeRecord) (fs others : List Event) → (d : List NodeRecord) × (local_history_with_outside_words n c (fs ++ others) ≡ local_history_with_outside_words n c fs ++ local_history_with_outside_words n d others)
 read_first n c [] others = (c, refl)
 read_first n c (e ∷ fs) others =
-    let k = read_first n (after c e).0 fs others in
+    let k = read_first n (event_result c e).0 fs others in
     (k.0, go (touches e n) k.0 k.1)
   where
-    go : (b : Bool) (d : List NodeRecord) → local_history_with_reads n (after c e).0 (fs ++ others) ≡ local_history_with_reads n (after c e).0 fs ++ local_history_with_reads n d others
-        → cond b ((e, received_word c e) ∷ local_history_with_reads n (after c e).0 (fs ++ others)) (local_history_with_reads n (after c e).0 (fs ++ others)) ≡ cond b ((e, received_word c e) ∷ local_history_with_reads n (after c e).0 fs) (local_history_with_reads n (after c e).0 fs) ++ local_history_with_reads n d others
-    go true d h = ap (λ (z : List (Event × Option ℕ)). (e, received_word c e) ∷ z) h
+    go : (b : Bool) (d : List NodeRecord) → local_history_with_outside_words n (event_result c e).0 (fs ++ others) ≡ local_history_with_outside_words n (event_result c e).0 fs ++ local_history_with_outside_words n d others
+        → cond b ((e, outside_word_of_event c e) ∷ local_history_with_outside_words n (event_result c e).0 (fs ++ others)) (local_history_with_outside_words n (event_result c e).0 (fs ++ others)) ≡ cond b ((e, outside_word_of_event c e) ∷ local_history_with_outside_words n (event_result c e).0 fs) (local_history_with_outside_words n (event_result c e).0 fs) ++ local_history_with_outside_words n d others
+    go true d h = ap (λ (z : List (Event × Option ℕ)). (e, outside_word_of_event c e) ∷ z) h
     go false d h = h
 
 pub no_more : (c : List NodeRecord) (es fs : List Event) (n : ℕ) → Completed c es fs → count_steps n fs ≤ count_steps n es
 no_more c es fs n (others, a) =
     let k = read_first n c fs others in
-    let p : length (local_history_with_reads n c es) ≡ length (local_history_with_reads n c fs ++ local_history_with_reads n k.0 others) = ap (λ z. length z) (order_read n c es (fs ++ others) a ∙ k.1) in
-    let q : length (local_history_with_reads n c fs ++ local_history_with_reads n k.0 others) ≡ length (local_history_with_reads n c fs) + length (local_history_with_reads n k.0 others) = length-append (local_history_with_reads n c fs) (local_history_with_reads n k.0 others) in
+    let p : length (local_history_with_outside_words n c es) ≡ length (local_history_with_outside_words n c fs ++ local_history_with_outside_words n k.0 others) = ap (λ z. length z) (order_read n c es (fs ++ others) a ∙ k.1) in
+    let q : length (local_history_with_outside_words n c fs ++ local_history_with_outside_words n k.0 others) ≡ length (local_history_with_outside_words n c fs) + length (local_history_with_outside_words n k.0 others) = length-append (local_history_with_outside_words n c fs) (local_history_with_outside_words n k.0 others) in
     omega (arith, p, q, steps_read n c es, steps_read n c fs)
 
 pub within_steps : (c : List NodeRecord) (es fs : List Event) → ((n : ℕ) → count_steps n fs ≤ count_steps n es) → Within c es fs
@@ -229,5 +229,5 @@ end_quiet c last now es fs h calm end k stop =
     let a = race_free_end_is_unique c last now es fs h calm end k stop in
     (a, same_Some now last (sym k ∙ sym (order_replay c es fs a) ∙ h))
 
-pub diamond_order : (c : List NodeRecord) (e f : Event) → IsEnabled c e → IsEnabled c f → AreIndependentOn c e f → IsSome (replay c (e ∷ f ∷ [])) × (replay c (e ∷ f ∷ []) ≡ replay c (f ∷ e ∷ []))
-diamond_order c e f cane canf free = (is_some_of (replay c (e ∷ f ∷ [])) (after (after c e).0 f).0 (replay_two c e f cane canf free), free_replay c e f [] cane canf free)
+pub diamond_order : (c : List NodeRecord) (e f : Event) → IsEnabled c e → IsEnabled c f → AreIndependentOnChip c e f → IsSome (replay c (e ∷ f ∷ [])) × (replay c (e ∷ f ∷ []) ≡ replay c (f ∷ e ∷ []))
+diamond_order c e f cane canf free = (is_some_of (replay c (e ∷ f ∷ [])) (event_result (event_result c e).0 f).0 (replay_two c e f cane canf free), free_replay c e f [] cane canf free)

@@ -5,17 +5,17 @@ use Rattle.std.proofs.lemmas.Bool.{both_ways, and_from, or_parts, or_from, false
 use Rattle.std.proofs.lemmas.Option.{same_Some}
 use Rattle.ga_ports.specs.declared.side.Side.{Side}
 use Rattle.ga_node.specs.Record.{NodeRecord}
-use Rattle.ga_grid.specs.Chip.{record_at}
-use Rattle.ga_grid.specs.Grid.{neighbour_of}
+use Rattle.ga_grid.specs.Chip.{node_record_at}
+use Rattle.ga_grid.specs.Grid.{neighbour_number}
 use Rattle.ga_grid.specs.declared.node_id.NodeId.{NodeId}
-use Rattle.ga_grid.proofs.NodeIds.{neighbour_of-other}
+use Rattle.ga_grid.proofs.NodeIds.{neighbour_number-other}
 use Rattle.ga_event.specs.declared.event.Event.{Event}
 use Rattle.ga_event.specs.declared.event.Event.TheVariants.{Pass}
 use Rattle.ga_event.specs.Touches.{touches}
-use Rattle.ga_event.specs.Apply.{waits_to_write_side, waits_to_read_side, equals_some, refusal_unless_matched, after, replay}
+use Rattle.ga_event.specs.Apply.{waits_to_write_side, waits_to_read_side, equals_optional_number, refusal_unless_matched, event_result, replay}
 use Rattle.ga_causal.proofs.Equivalences.{touched_of}
 use Rattle.ga_races.specs.Orders.{IsEnabled, AreReorderings, same, later, joined, IsRace, AreConflictingPasses}
-use Rattle.ga_races.specs.HappensBefore.{TraceAction, action_of, actions, action_at, are_dependent, IsDirectlyBefore, HappensBefore, directly, through, chip_at, event_at_place, IsRacingPair, IsContendedPass}
+use Rattle.ga_races.specs.HappensBefore.{TraceAction, trace_action_of_event, trace_actions_of_events, trace_action_at, are_dependent_actions, HappensDirectlyBefore, HappensBefore, directly, through, chip_after_prefix, event_at_place, IsRacingPair, IsContendedPass}
 use Rattle.ga_races.proofs.Independence.{replay_more, first_of, can_back, stays, apart-sym, touches_reader}
 use Rattle.ga_races.proofs.Orders.{is_some_of, enabled_after}
 use Rattle.ga_races.proofs.Exact.{replay_into}
@@ -52,14 +52,14 @@ reached-append (x ∷ xs) ys held zero l = refl
 reached-append (x ∷ xs) ys held (suc j) l =
     ap₂ (cond (meets_some held x)) (reached-append xs ys (held ++ x ∷ []) j (omega (arith, l))) (reached-append xs ys held j (omega (arith, l)))
 
-pub action_there : (fs : List Event) (c d : List NodeRecord) (y : Event) (ys : List Event) → replay c fs ≡ Some d → action_at (actions c (fs ++ y ∷ ys)) (length fs) ≡ action_of d y
-action_there [] c d y ys h = ap (λ z. action_of z y) (same_Some c d h)
-action_there (f ∷ fs) c d y ys h = let p = first_of c f fs d h in action_there fs (after c f).0 d y ys p.then
+pub action_there : (fs : List Event) (c d : List NodeRecord) (y : Event) (ys : List Event) → replay c fs ≡ Some d → trace_action_at (trace_actions_of_events c (fs ++ y ∷ ys)) (length fs) ≡ trace_action_of_event d y
+action_there [] c d y ys h = ap (λ z. trace_action_of_event z y) (same_Some c d h)
+action_there (f ∷ fs) c d y ys h = let p = first_of c f fs d h in action_there fs (event_result c f).0 d y ys p.then
 
-pub action_before : (fs : List Event) (c : List NodeRecord) (ys : List Event) (j : ℕ) → j < length fs → action_at (actions c (fs ++ ys)) j ≡ action_at (actions c fs) j
+pub action_before : (fs : List Event) (c : List NodeRecord) (ys : List Event) (j : ℕ) → j < length fs → trace_action_at (trace_actions_of_events c (fs ++ ys)) j ≡ trace_action_at (trace_actions_of_events c fs) j
 action_before [] c ys j l = absurd (omega (arith, l))
 action_before (f ∷ fs) c ys zero l = refl
-action_before (f ∷ fs) c ys (suc j) l = action_before fs (after c f).0 ys j (omega (arith, l))
+action_before (f ∷ fs) c ys (suc j) l = action_before fs (event_result c f).0 ys j (omega (arith, l))
 
 -- ---- the sweep
 
@@ -70,52 +70,52 @@ record IsSwept (c d : List NodeRecord) (e : Event) (xs post : List Event) (q : T
   now : List NodeRecord
   led : replay c before ≡ Some now
   can : IsEnabled now e
-  still : action_of now e ≡ action_of c e
-  then : replay (after now e).0 behind ≡ Some d
-  none : list_any q (actions (after now e).0 behind) ≡ false
-  kept : (n : ℕ) → touches e n ≡ true → record_at now n ≡ record_at c n
+  still : trace_action_of_event now e ≡ trace_action_of_event c e
+  then : replay (event_result now e).0 behind ≡ Some d
+  none : list_any q (trace_actions_of_events (event_result now e).0 behind) ≡ false
+  kept : (n : ℕ) → touches e n ≡ true → node_record_at now n ≡ node_record_at c n
   order : AreReorderings c xs (before ++ e ∷ (behind ++ post))
 
 swept_over : (c d last : List NodeRecord) (e : Event) (fs : List Event) (y : Event) (zs post : List Event) (q : TraceAction → Bool) → IsOver c d (e ∷ fs) y zs → Apart e y
-    → IsSwept (after c y).0 last e (e ∷ (fs ++ zs)) post q → IsSwept c last e (e ∷ (fs ++ y ∷ zs)) post q
+    → IsSwept (event_result c y).0 last e (e ∷ (fs ++ zs)) post q → IsSwept c last e (e ∷ (fs ++ y ∷ zs)) post q
 swept_over c d last e fs y zs post q o apart s = record {
   before = y ∷ s.before;
   behind = s.behind;
   now = s.now;
   led = replay_more c y s.before o.can ∙ s.led;
   can = s.can;
-  still = s.still ∙ first_same (action_of (after c y).0 e) (action_of c e) (actions (after (after c y).0 e).0 fs) (actions (after c e).0 fs) o.kept;
+  still = s.still ∙ first_same (trace_action_of_event (event_result c y).0 e) (trace_action_of_event c e) (trace_actions_of_events (event_result (event_result c y).0 e).0 fs) (trace_actions_of_events (event_result c e).0 fs) o.kept;
   then = s.then;
   none = s.none;
   kept = λ n t. s.kept n t ∙ sym ((stays c y o.can).same n (apart n t));
   order = joined o.order (later o.can s.order);
 }
 
-swept_next : (c d last : List NodeRecord) (e : Event) (fs : List Event) (y : Event) (mid post : List Event) (q : TraceAction → Bool) → IsEnabled c e → replay (after c e).0 fs ≡ Some d → IsEnabled d y
-    → list_any q (actions (after c e).0 fs) ≡ false
-    → (b : Bool) → meets_some (actions c (e ∷ fs)) (action_of d y) ≡ b → (meets_some (actions c (e ∷ fs)) (action_of d y) ≡ true → q (action_of d y) ≡ false)
-    → (replay (after c e).0 (fs ++ y ∷ []) ≡ Some (after d y).0 → list_any q (actions (after c e).0 (fs ++ y ∷ [])) ≡ false → meets_some (actions c (e ∷ fs)) (action_of d y) ≡ true
-    → actions c (e ∷ (fs ++ y ∷ [])) ≡ actions c (e ∷ fs) ++ action_of d y ∷ [] → IsSwept c last e (e ∷ ((fs ++ y ∷ []) ++ (mid ++ post))) post q)
-    → ((now : List NodeRecord) → IsEnabled now e → replay (after now e).0 fs ≡ Some (after d y).0 → list_any q (actions (after now e).0 fs) ≡ false → meets_some (actions c (e ∷ fs)) (action_of d y) ≡ false
-    → actions now (e ∷ fs) ≡ actions c (e ∷ fs) → IsSwept now last e (e ∷ (fs ++ (mid ++ post))) post q)
+swept_next : (c d last : List NodeRecord) (e : Event) (fs : List Event) (y : Event) (mid post : List Event) (q : TraceAction → Bool) → IsEnabled c e → replay (event_result c e).0 fs ≡ Some d → IsEnabled d y
+    → list_any q (trace_actions_of_events (event_result c e).0 fs) ≡ false
+    → (b : Bool) → meets_some (trace_actions_of_events c (e ∷ fs)) (trace_action_of_event d y) ≡ b → (meets_some (trace_actions_of_events c (e ∷ fs)) (trace_action_of_event d y) ≡ true → q (trace_action_of_event d y) ≡ false)
+    → (replay (event_result c e).0 (fs ++ y ∷ []) ≡ Some (event_result d y).0 → list_any q (trace_actions_of_events (event_result c e).0 (fs ++ y ∷ [])) ≡ false → meets_some (trace_actions_of_events c (e ∷ fs)) (trace_action_of_event d y) ≡ true
+    → trace_actions_of_events c (e ∷ (fs ++ y ∷ [])) ≡ trace_actions_of_events c (e ∷ fs) ++ trace_action_of_event d y ∷ [] → IsSwept c last e (e ∷ ((fs ++ y ∷ []) ++ (mid ++ post))) post q)
+    → ((now : List NodeRecord) → IsEnabled now e → replay (event_result now e).0 fs ≡ Some (event_result d y).0 → list_any q (trace_actions_of_events (event_result now e).0 fs) ≡ false → meets_some (trace_actions_of_events c (e ∷ fs)) (trace_action_of_event d y) ≡ false
+    → trace_actions_of_events now (e ∷ fs) ≡ trace_actions_of_events c (e ∷ fs) → IsSwept now last e (e ∷ (fs ++ (mid ++ post))) post q)
     → IsSwept c last e (e ∷ (fs ++ ((y ∷ mid) ++ post))) post q
 swept_next c d last e fs y mid post q can h cany none true is kind held spared =
-    let all : actions (after c e).0 (fs ++ y ∷ []) ≡ actions (after c e).0 fs ++ action_of d y ∷ [] = actions_into fs (y ∷ []) (after c e).0 d h in
+    let all : trace_actions_of_events (event_result c e).0 (fs ++ y ∷ []) ≡ trace_actions_of_events (event_result c e).0 fs ++ trace_action_of_event d y ∷ [] = actions_into fs (y ∷ []) (event_result c e).0 d h in
     subst (λ (z : List Event). IsSwept c last e (e ∷ z) post q) (append_assoc fs (y ∷ []) (mid ++ post))
-    (held (replay_into fs (y ∷ []) (after c e).0 d h ∙ replay_more d y [] cany)
-    (ap (list_any q) all ∙ any-append q (actions (after c e).0 fs) (action_of d y ∷ []) none (or_from (q (action_of d y)) false (kind is) refl))
-    is (ap (λ (z : List TraceAction). action_of c e ∷ z) all))
+    (held (replay_into fs (y ∷ []) (event_result c e).0 d h ∙ replay_more d y [] cany)
+    (ap (list_any q) all ∙ any-append q (trace_actions_of_events (event_result c e).0 fs) (trace_action_of_event d y ∷ []) none (or_from (q (trace_action_of_event d y)) false (kind is) refl))
+    is (ap (λ (z : List TraceAction). trace_action_of_event c e ∷ z) all))
 swept_next c d last e fs y mid post q can h cany none false is kind held spared =
     let o : IsOver c d (e ∷ fs) y (mid ++ post) = over (e ∷ fs) c d y (mid ++ post) (replay_more c e fs can ∙ h) cany is in
-    let p = first_of (after c y).0 e fs (after d y).0 o.led in
-    let apart : Apart e y = unbound_apart (action_of c e) (action_of d y) ((or_parts (are_dependent (action_of c e) (action_of d y)) (meets_some (actions (after c e).0 fs) (action_of d y)) is).0) in
+    let p = first_of (event_result c y).0 e fs (event_result d y).0 o.led in
+    let apart : Apart e y = unbound_apart (trace_action_of_event c e) (trace_action_of_event d y) ((or_parts (are_dependent_actions (trace_action_of_event c e) (trace_action_of_event d y)) (meets_some (trace_actions_of_events (event_result c e).0 fs) (trace_action_of_event d y)) is).0) in
     swept_over c d last e fs y (mid ++ post) post q o apart
-    (spared (after c y).0 p.can p.then
-    (ap (list_any q) (others_same (action_of (after c y).0 e) (action_of c e) (actions (after (after c y).0 e).0 fs) (actions (after c e).0 fs) o.kept) ∙ none) is o.kept)
+    (spared (event_result c y).0 p.can p.then
+    (ap (list_any q) (others_same (trace_action_of_event (event_result c y).0 e) (trace_action_of_event c e) (trace_actions_of_events (event_result (event_result c y).0 e).0 fs) (trace_actions_of_events (event_result c e).0 fs) o.kept) ∙ none) is o.kept)
 
-swept : (mid : List Event) (c d last : List NodeRecord) (e : Event) (fs post : List Event) (q : TraceAction → Bool) → IsEnabled c e → replay (after c e).0 fs ≡ Some d → replay d mid ≡ Some last
-    → list_any q (actions (after c e).0 fs) ≡ false
-    → ((j : ℕ) → j < length mid → reached (actions c (e ∷ fs)) (actions d mid) j ≡ true → q (action_at (actions d mid) j) ≡ false)
+swept : (mid : List Event) (c d last : List NodeRecord) (e : Event) (fs post : List Event) (q : TraceAction → Bool) → IsEnabled c e → replay (event_result c e).0 fs ≡ Some d → replay d mid ≡ Some last
+    → list_any q (trace_actions_of_events (event_result c e).0 fs) ≡ false
+    → ((j : ℕ) → j < length mid → reached (trace_actions_of_events c (e ∷ fs)) (trace_actions_of_events d mid) j ≡ true → q (trace_action_at (trace_actions_of_events d mid) j) ≡ false)
     → IsSwept c last e (e ∷ (fs ++ (mid ++ post))) post q
 swept [] c d last e fs post q can h k none kind = record {
   before = [];
@@ -131,22 +131,22 @@ swept [] c d last e fs post q can h k none kind = record {
 }
 swept (y ∷ mid) c d last e fs post q can h k none kind =
     let p = first_of d y mid last k in
-    let yes_at : ℕ → Bool = λ j. reached (actions c (e ∷ fs) ++ action_of d y ∷ []) (actions (after d y).0 mid) j in
-    let out_at : ℕ → Bool = λ j. reached (actions c (e ∷ fs)) (actions (after d y).0 mid) j in
-    swept_next c d last e fs y mid post q can h p.can none (meets_some (actions c (e ∷ fs)) (action_of d y)) refl (kind 0 (omega arith))
-    (λ more left is all. swept mid c (after d y).0 last e (fs ++ y ∷ []) post q can more p.then left
-    (λ j l t. kind (suc j) (omega (arith, l)) (ap (λ (b : Bool). cond b (yes_at j) (out_at j)) is ∙ sym (ap (λ (z : List TraceAction). reached z (actions (after d y).0 mid) j) all) ∙ t)))
-    (λ now cane led left is all. swept mid now (after d y).0 last e fs post q cane led p.then left
-    (λ j l t. kind (suc j) (omega (arith, l)) (ap (λ (b : Bool). cond b (yes_at j) (out_at j)) is ∙ sym (ap (λ (z : List TraceAction). reached z (actions (after d y).0 mid) j) all) ∙ t)))
+    let yes_at : ℕ → Bool = λ j. reached (trace_actions_of_events c (e ∷ fs) ++ trace_action_of_event d y ∷ []) (trace_actions_of_events (event_result d y).0 mid) j in
+    let out_at : ℕ → Bool = λ j. reached (trace_actions_of_events c (e ∷ fs)) (trace_actions_of_events (event_result d y).0 mid) j in
+    swept_next c d last e fs y mid post q can h p.can none (meets_some (trace_actions_of_events c (e ∷ fs)) (trace_action_of_event d y)) refl (kind 0 (omega arith))
+    (λ more left is all. swept mid c (event_result d y).0 last e (fs ++ y ∷ []) post q can more p.then left
+    (λ j l t. kind (suc j) (omega (arith, l)) (ap (λ (b : Bool). cond b (yes_at j) (out_at j)) is ∙ sym (ap (λ (z : List TraceAction). reached z (trace_actions_of_events (event_result d y).0 mid) j) all) ∙ t)))
+    (λ now cane led left is all. swept mid now (event_result d y).0 last e fs post q cane led p.then left
+    (λ j l t. kind (suc j) (omega (arith, l)) (ap (λ (b : Bool). cond b (yes_at j) (out_at j)) is ∙ sym (ap (λ (z : List TraceAction). reached z (trace_actions_of_events (event_result d y).0 mid) j) all) ∙ t)))
 
 -- what is reached from the first event happens after it
-reached_first : (c : List NodeRecord) (e : Event) (mid ys : List Event) (d : List NodeRecord) (j : ℕ) → replay (after c e).0 mid ≡ Some d → j < length mid → reached (actions c (e ∷ [])) (actions (after c e).0 mid) j ≡ true
-    → HappensBefore (actions c (e ∷ (mid ++ ys))) 0 (suc j)
+reached_first : (c : List NodeRecord) (e : Event) (mid ys : List Event) (d : List NodeRecord) (j : ℕ) → replay (event_result c e).0 mid ≡ Some d → j < length mid → reached (trace_actions_of_events c (e ∷ [])) (trace_actions_of_events (event_result c e).0 mid) j ≡ true
+    → HappensBefore (trace_actions_of_events c (e ∷ (mid ++ ys))) 0 (suc j)
 reached_first c e mid ys d j h l t =
-    let size : length (actions (after c e).0 mid) ≡ length mid = actions_length (after c e).0 mid in
-    before_of (actions c (e ∷ (mid ++ ys))) 0 (suc j)
-    (ap (λ (z : List TraceAction). reached (action_of c e ∷ []) z j) (actions_into mid ys (after c e).0 d h)
-    ∙ reached-append (actions (after c e).0 mid) (actions d ys) (action_of c e ∷ []) j (omega (arith, l, size)) ∙ t)
+    let size : length (trace_actions_of_events (event_result c e).0 mid) ≡ length mid = actions_length (event_result c e).0 mid in
+    before_of (trace_actions_of_events c (e ∷ (mid ++ ys))) 0 (suc j)
+    (ap (λ (z : List TraceAction). reached (trace_action_of_event c e ∷ []) z j) (actions_into mid ys (event_result c e).0 d h)
+    ∙ reached-append (trace_actions_of_events (event_result c e).0 mid) (trace_actions_of_events d ys) (trace_action_of_event c e ∷ []) j (omega (arith, l, size)) ∙ t)
 
 -- ---- a list cut at a place
 
@@ -165,7 +165,7 @@ split_at (e ∷ es) (suc j) l =
 
 -- ---- what is near races
 
-race_later : (c : List NodeRecord) (e : Event) (es : List Event) (step other : Event) → IsEnabled c e → IsRace (after c e).0 es step other → IsRace c (e ∷ es) step other
+race_later : (c : List NodeRecord) (e : Event) (es : List Event) (step other : Event) → IsEnabled c e → IsRace (event_result c e).0 es step other → IsRace c (e ∷ es) step other
 race_later c e es step other can r = record {
   before = e ∷ r.before;
   later = r.later;
@@ -180,7 +180,7 @@ race_later c e es step other can r = record {
 pub happens_later : (a : TraceAction) (xs : List TraceAction) (i j : ℕ) → HappensBefore xs i j → HappensBefore (a ∷ xs) (suc i) (suc j)
 happens_later a xs i j (directly d) = directly (bound_later a xs i j d)
   where
-    bound_later : (a : TraceAction) (xs : List TraceAction) (i j : ℕ) → IsDirectlyBefore xs i j → IsDirectlyBefore (a ∷ xs) (suc i) (suc j)
+    bound_later : (a : TraceAction) (xs : List TraceAction) (i j : ℕ) → HappensDirectlyBefore xs i j → HappensDirectlyBefore (a ∷ xs) (suc i) (suc j)
     bound_later a xs i j d = let l : i < j = d.before in let m : j < length xs = d.within in record { before = omega (arith, l); within = omega (arith, m); bound = d.bound }
 happens_later a xs i j (through {middle} h d) =
     let l : middle < j = d.before in
@@ -190,14 +190,14 @@ happens_later a xs i j (through {middle} h d) =
 unlike : (e y : Event) → Apart e y → e ≢ y
 unlike e y apart h = let t = touched_of e in both_ways (touches y t.node) (apart t.node t.is) (subst (λ (z : Event). touches z t.node ≡ true) h t.is)
 
-near_split : (mid : List Event) (c d last : List NodeRecord) (e y : Event) (post : List Event) → IsEnabled c e → replay (after c e).0 mid ≡ Some d → IsEnabled d y → Apart e y
-    → are_dependent (action_of c e) (action_of d y) ≡ true
-    → ((j : ℕ) → j < length mid → reached (actions c (e ∷ [])) (actions (after c e).0 mid) j ≡ true → are_dependent (action_at (actions (after c e).0 mid) j) (action_of d y) ≡ false)
+near_split : (mid : List Event) (c d last : List NodeRecord) (e y : Event) (post : List Event) → IsEnabled c e → replay (event_result c e).0 mid ≡ Some d → IsEnabled d y → Apart e y
+    → are_dependent_actions (trace_action_of_event c e) (trace_action_of_event d y) ≡ true
+    → ((j : ℕ) → j < length mid → reached (trace_actions_of_events c (e ∷ [])) (trace_actions_of_events (event_result c e).0 mid) j ≡ true → are_dependent_actions (trace_action_at (trace_actions_of_events (event_result c e).0 mid) j) (trace_action_of_event d y) ≡ false)
     → IsRace c (e ∷ (mid ++ y ∷ post)) e y
 near_split mid c d last e y post can h cany apart bound kind =
-    let s : IsSwept c d e (e ∷ ([] ++ (mid ++ y ∷ post))) (y ∷ post) (λ a. are_dependent a (action_of d y)) =
-    swept mid c (after c e).0 d e [] (y ∷ post) (λ a. are_dependent a (action_of d y)) can refl h refl kind in
-    let o : IsOver (after s.now e).0 d s.behind y post = over s.behind (after s.now e).0 d y post s.then cany s.none in
+    let s : IsSwept c d e (e ∷ ([] ++ (mid ++ y ∷ post))) (y ∷ post) (λ a. are_dependent_actions a (trace_action_of_event d y)) =
+    swept mid c (event_result c e).0 d e [] (y ∷ post) (λ a. are_dependent_actions a (trace_action_of_event d y)) can refl h refl kind in
+    let o : IsOver (event_result s.now e).0 d s.behind y post = over s.behind (event_result s.now e).0 d y post s.then cany s.none in
     let now_can : IsEnabled s.now y = can_back s.now y e (apart-sym e y apart) s.can o.can in
     record {
       before = s.before;
@@ -207,28 +207,28 @@ near_split mid c d last e y post can h cany apart bound kind =
       led = s.led;
       can = now_can;
       differ = unlike e y apart;
-      bound = λ free. both_ways (are_dependent (action_of c e) (action_of d y)) (ap₂ are_dependent (sym s.still) (sym o.still) ∙ (free_exact s.now e y s.can o.can).1 (now_can, free)) bound;
+      bound = λ free. both_ways (are_dependent_actions (trace_action_of_event c e) (trace_action_of_event d y)) (ap₂ are_dependent_actions (sym s.still) (sym o.still) ∙ (free_exact s.now e y s.can o.can).1 (now_can, free)) bound;
     }
 
 near_first : (c last : List NodeRecord) (e : Event) (mid : List Event) (y : Event) (post : List Event) → replay c (e ∷ (mid ++ y ∷ post)) ≡ Some last → IsRacingPair c (e ∷ (mid ++ y ∷ post)) 0 (suc (length mid)) → IsRace c (e ∷ (mid ++ y ∷ post)) e y
 near_first c last e mid y post h n =
     let p = first_of c e (mid ++ y ∷ post) last h in
-    let b = begins mid (y ∷ post) (after c e).0 last p.then in
-    let cany : IsEnabled b.0 y = enabled_after mid (after c e).0 b.0 y post b.1 (is_some_of (replay (after c e).0 (mid ++ y ∷ post)) last p.then) in
-    let there : action_at (actions (after c e).0 (mid ++ y ∷ post)) (length mid) ≡ action_of b.0 y = action_there mid (after c e).0 b.0 y post b.1 in
-    near_split mid c b.0 last e y post p.can b.1 cany (λ k t. ap (λ (a : TraceAction). touches a.cause.event k) (sym there) ∙ n.apart k t) (ap (are_dependent (action_of c e)) (sym there) ∙ n.bound.bound)
-    (λ j l t. false_from_ne_true (are_dependent (action_at (actions (after c e).0 mid) j) (action_of b.0 y))
+    let b = begins mid (y ∷ post) (event_result c e).0 last p.then in
+    let cany : IsEnabled b.0 y = enabled_after mid (event_result c e).0 b.0 y post b.1 (is_some_of (replay (event_result c e).0 (mid ++ y ∷ post)) last p.then) in
+    let there : trace_action_at (trace_actions_of_events (event_result c e).0 (mid ++ y ∷ post)) (length mid) ≡ trace_action_of_event b.0 y = action_there mid (event_result c e).0 b.0 y post b.1 in
+    near_split mid c b.0 last e y post p.can b.1 cany (λ k t. ap (λ (a : TraceAction). touches a.cause.event k) (sym there) ∙ n.apart k t) (ap (are_dependent_actions (trace_action_of_event c e)) (sym there) ∙ n.bound.bound)
+    (λ j l t. false_from_ne_true (are_dependent_actions (trace_action_at (trace_actions_of_events (event_result c e).0 mid) j) (trace_action_of_event b.0 y))
     (λ u. n.none (suc j) (reached_first c e mid (y ∷ post) b.0 j b.1 l t)
     (directly (record {
       before = omega (arith, l);
       within = n.bound.within;
-      bound = ap₂ are_dependent (action_before mid (after c e).0 (y ∷ post) j l) there ∙ u;
+      bound = ap₂ are_dependent_actions (action_before mid (event_result c e).0 (y ∷ post) j l) there ∙ u;
     }))))
 
 near_at_first : (c last : List NodeRecord) (e : Event) (es : List Event) (j : ℕ) → replay c (e ∷ es) ≡ Some last → IsRacingPair c (e ∷ es) 0 (suc j) → IsRace c (e ∷ es) e (event_at_place c (e ∷ es) (suc j))
 near_at_first c last e es j h n =
-    let size : length (actions (after c e).0 es) ≡ length es = actions_length (after c e).0 es in
-    let l : suc j < suc (length (actions (after c e).0 es)) = n.bound.within in
+    let size : length (trace_actions_of_events (event_result c e).0 es) ≡ length es = actions_length (event_result c e).0 es in
+    let l : suc j < suc (length (trace_actions_of_events (event_result c e).0 es)) = n.bound.within in
     let s : Split es j = split_at es j (omega (arith, l, size)) in
     go s.mid s.post s.is s.size (omega (arith, l, size))
   where
@@ -241,19 +241,19 @@ near_at_first c last e es j h n =
         let found : IsRace c (e ∷ (mid ++ y ∷ post)) e y =
         near_first c last e mid y post (subst (λ (z : List Event). replay c (e ∷ z) ≡ Some last) is h)
         (subst₂ (λ (z : List Event) (k : ℕ). IsRacingPair c (e ∷ z) 0 (suc k)) is (sym size) n) in
-        let b = begins mid (y ∷ post) (after c e).0 last ((first_of c e (mid ++ y ∷ post) last (subst (λ (z : List Event). replay c (e ∷ z) ≡ Some last) is h)).then) in
-        let there : event_at_place c (e ∷ (mid ++ y ∷ post)) (suc (length mid)) ≡ y = ap (λ (a : TraceAction). a.cause.event) (action_there mid (after c e).0 b.0 y post b.1) in
+        let b = begins mid (y ∷ post) (event_result c e).0 last ((first_of c e (mid ++ y ∷ post) last (subst (λ (z : List Event). replay c (e ∷ z) ≡ Some last) is h)).then) in
+        let there : event_at_place c (e ∷ (mid ++ y ∷ post)) (suc (length mid)) ≡ y = ap (λ (a : TraceAction). a.cause.event) (action_there mid (event_result c e).0 b.0 y post b.1) in
         subst₂ (λ (z : List Event) (k : ℕ). IsRace c (e ∷ z) e (event_at_place c (e ∷ z) (suc k))) (sym is) size
         (subst (IsRace c (e ∷ (mid ++ y ∷ post)) e) (sym there) found)
 
-near_tail : (c : List NodeRecord) (e : Event) (es : List Event) (i j : ℕ) → IsRacingPair c (e ∷ es) (suc i) (suc j) → IsRacingPair (after c e).0 es i j
+near_tail : (c : List NodeRecord) (e : Event) (es : List Event) (i j : ℕ) → IsRacingPair c (e ∷ es) (suc i) (suc j) → IsRacingPair (event_result c e).0 es i j
 near_tail c e es i j n =
     let l : suc i < suc j = n.bound.before in
-    let m : suc j < suc (length (actions (after c e).0 es)) = n.bound.within in
+    let m : suc j < suc (length (trace_actions_of_events (event_result c e).0 es)) = n.bound.within in
     record {
       bound = record { before = omega (arith, l); within = omega (arith, m); bound = n.bound.bound };
       apart = n.apart;
-      none = λ middle a b. n.none (suc middle) (happens_later (action_of c e) (actions (after c e).0 es) i middle a) (happens_later (action_of c e) (actions (after c e).0 es) middle j b);
+      none = λ middle a b. n.none (suc middle) (happens_later (trace_action_of_event c e) (trace_actions_of_events (event_result c e).0 es) i middle a) (happens_later (trace_action_of_event c e) (trace_actions_of_events (event_result c e).0 es) middle j b);
     }
 
 pub near_races : (es : List Event) (c last : List NodeRecord) (i j : ℕ) → replay c es ≡ Some last → IsRacingPair c es i j → IsRace c es (event_at_place c es i) (event_at_place c es j)
@@ -262,41 +262,41 @@ near_races (e ∷ es) c last i zero h n = let l : i < 0 = n.bound.before in absu
 near_races (e ∷ es) c last zero (suc j) h n = near_at_first c last e es j h n
 near_races (e ∷ es) c last (suc i) (suc j) h n =
     let p = first_of c e es last h in
-    race_later c e es (event_at_place (after c e).0 es i) (event_at_place (after c e).0 es j) p.can (near_races es (after c e).0 last i j p.then (near_tail c e es i j n))
+    race_later c e es (event_at_place (event_result c e).0 es i) (event_at_place (event_result c e).0 es j) p.can (near_races es (event_result c e).0 last i j p.then (near_tail c e es i j n))
 
 -- ---- what is contended races
 
-can_pass : (c : List NodeRecord) (w r : NodeId) (side : Side) → neighbour_of w.number side ≡ Some r.number → waits_to_write_side (record_at c w.number).wait side ≡ true → waits_to_read_side (record_at c r.number).wait side ≡ true → IsEnabled c (Pass w r side)
+can_pass : (c : List NodeRecord) (w r : NodeId) (side : Side) → neighbour_number w.number side ≡ Some r.number → waits_to_write_side (node_record_at c w.number).wait side ≡ true → waits_to_read_side (node_record_at c r.number).wait side ≡ true → IsEnabled c (Pass w r side)
 can_pass c w r side near writes reads =
-    let neighbour_on_side : equals_some (neighbour_of w.number side) r.number ≡ true = ap (λ o. equals_some o r.number) near ∙ eq-eqb r.number r.number refl in
-    ap refusal_unless_matched (and_from (equals_some (neighbour_of w.number side) r.number && waits_to_write_side (record_at c w.number).wait side) (waits_to_read_side (record_at c r.number).wait side)
-    (and_from (equals_some (neighbour_of w.number side) r.number) (waits_to_write_side (record_at c w.number).wait side) neighbour_on_side writes) reads)
+    let neighbour_on_side : equals_optional_number (neighbour_number w.number side) r.number ≡ true = ap (λ o. equals_optional_number o r.number) near ∙ eq-eqb r.number r.number refl in
+    ap refusal_unless_matched (and_from (equals_optional_number (neighbour_number w.number side) r.number && waits_to_write_side (node_record_at c w.number).wait side) (waits_to_read_side (node_record_at c r.number).wait side)
+    (and_from (equals_optional_number (neighbour_number w.number side) r.number) (waits_to_write_side (node_record_at c w.number).wait side) neighbour_on_side writes) reads)
 
 -- a node that no event of a list touches
-untouched_run : (fs : List Event) (c d : List NodeRecord) (n : ℕ) → replay c fs ≡ Some d → list_any (λ (a : TraceAction). touches a.cause.event n) (actions c fs) ≡ false → record_at c n ≡ record_at d n
-untouched_run [] c d n h none = ap (λ z. record_at z n) (same_Some c d h)
+untouched_run : (fs : List Event) (c d : List NodeRecord) (n : ℕ) → replay c fs ≡ Some d → list_any (λ (a : TraceAction). touches a.cause.event n) (trace_actions_of_events c fs) ≡ false → node_record_at c n ≡ node_record_at d n
+untouched_run [] c d n h none = ap (λ z. node_record_at z n) (same_Some c d h)
 untouched_run (f ∷ fs) c d n h none =
     let p = first_of c f fs d h in
-    let q = or_parts (touches f n) (list_any (λ (a : TraceAction). touches a.cause.event n) (actions (after c f).0 fs)) none in
-    (stays c f p.can).same n q.0 ∙ untouched_run fs (after c f).0 d n p.then q.1
+    let q = or_parts (touches f n) (list_any (λ (a : TraceAction). touches a.cause.event n) (trace_actions_of_events (event_result c f).0 fs)) none in
+    (stays c f p.can).same n q.0 ∙ untouched_run fs (event_result c f).0 d n p.then q.1
 
-pub writer_apart : (w r x : NodeId) (side other : Side) → w.number ≢ x.number → neighbour_of x.number other ≡ Some r.number → touches (Pass w r side) x.number ≡ false
+pub writer_apart : (w r x : NodeId) (side other : Side) → w.number ≢ x.number → neighbour_number x.number other ≡ Some r.number → touches (Pass w r side) x.number ≡ false
 writer_apart w r x side other ne near =
     or_from (w.number == x.number) ((r.number == x.number) || false) (ne_eqb w.number x.number ne)
-    (or_from (r.number == x.number) false (ne_eqb r.number x.number (neighbour_of-other x.number r.number other near)) refl)
+    (or_from (r.number == x.number) false (ne_eqb r.number x.number (neighbour_number-other x.number r.number other near)) refl)
 
-contended_split : (mid : List Event) (c d last : List NodeRecord) (e other : Event) (post : List Event) (rivals : AreConflictingPasses e other) → IsEnabled c e → replay (after c e).0 mid ≡ Some d
-    → neighbour_of rivals.second.number rivals.other ≡ Some rivals.reader.number → waits_to_read_side (record_at c rivals.reader.number).wait rivals.other ≡ true → waits_to_write_side (record_at d rivals.second.number).wait rivals.other ≡ true
-    → ((j : ℕ) → j < length mid → reached (actions c (e ∷ [])) (actions (after c e).0 mid) j ≡ true → touches (action_at (actions (after c e).0 mid) j).cause.event rivals.second.number ≡ false)
+contended_split : (mid : List Event) (c d last : List NodeRecord) (e other : Event) (post : List Event) (rivals : AreConflictingPasses e other) → IsEnabled c e → replay (event_result c e).0 mid ≡ Some d
+    → neighbour_number rivals.second.number rivals.other ≡ Some rivals.reader.number → waits_to_read_side (node_record_at c rivals.reader.number).wait rivals.other ≡ true → waits_to_write_side (node_record_at d rivals.second.number).wait rivals.other ≡ true
+    → ((j : ℕ) → j < length mid → reached (trace_actions_of_events c (e ∷ [])) (trace_actions_of_events (event_result c e).0 mid) j ≡ true → touches (trace_action_at (trace_actions_of_events (event_result c e).0 mid) j).cause.event rivals.second.number ≡ false)
     → IsRace c (e ∷ (mid ++ post)) e other
 contended_split mid c d last e other post rivals can h near reads writes kind =
     let x : ℕ = rivals.second.number in
     let r : ℕ = rivals.reader.number in
     let s : IsSwept c d e (e ∷ ([] ++ (mid ++ post))) post (λ a. touches a.cause.event x) =
-    swept mid c (after c e).0 d e [] post (λ a. touches a.cause.event x) can refl h refl kind in
+    swept mid c (event_result c e).0 d e [] post (λ a. touches a.cause.event x) can refl h refl kind in
     let out : touches e x ≡ false = ap (λ (z : Event). touches z x) rivals.one ∙ writer_apart rivals.first rivals.reader rivals.second rivals.side rivals.other rivals.writers near in
     let read : touches e r ≡ true = ap (λ (z : Event). touches z r) rivals.one ∙ touches_reader rivals.first rivals.reader rivals.side in
-    let at_writer : record_at s.now x ≡ record_at d x = (stays s.now e s.can).same x out ∙ untouched_run s.behind (after s.now e).0 d x s.then s.none in
+    let at_writer : node_record_at s.now x ≡ node_record_at d x = (stays s.now e s.can).same x out ∙ untouched_run s.behind (event_result s.now e).0 d x s.then s.none in
     let can_other : IsEnabled s.now other =
     subst (IsEnabled s.now) (sym rivals.two) (can_pass s.now rivals.second rivals.reader rivals.other near
     (ap (λ (z : NodeRecord). waits_to_write_side z.wait rivals.other) at_writer ∙ writes) (ap (λ (z : NodeRecord). waits_to_read_side z.wait rivals.other) (s.kept r read) ∙ reads)) in
@@ -311,31 +311,31 @@ contended_split mid c d last e other post rivals can h near reads writes kind =
       bound = λ free. both_ways (touches other r) (free.apart r read) (ap (λ (z : Event). touches z r) rivals.two ∙ touches_reader rivals.second rivals.reader rivals.other);
     }
 
-pub chip_there : (fs : List Event) (c d : List NodeRecord) (ys : List Event) → replay c fs ≡ Some d → chip_at c (fs ++ ys) (length fs) ≡ d
+pub chip_there : (fs : List Event) (c d : List NodeRecord) (ys : List Event) → replay c fs ≡ Some d → chip_after_prefix c (fs ++ ys) (length fs) ≡ d
 chip_there [] c d [] h = same_Some c d h
 chip_there [] c d (y ∷ ys) h = same_Some c d h
-chip_there (f ∷ fs) c d ys h = chip_there fs (after c f).0 d ys (first_of c f fs d h).then
+chip_there (f ∷ fs) c d ys h = chip_there fs (event_result c f).0 d ys (first_of c f fs d h).then
 
 -- after k of the events the node waits to write, and none of its steps among them happens after the first event
 abbrev IsPosted : List NodeRecord → Event → ℕ → Side → List Event → ℕ → Type 0
-IsPosted c e x side es k = (waits_to_write_side (record_at (chip_at c (e ∷ es) k) x).wait side ≡ true)
-    × ((step : ℕ) → step < k → touches (event_at_place c (e ∷ es) step) x ≡ true → HappensBefore (actions c (e ∷ es)) 0 step → ⊥)
+IsPosted c e x side es k = (waits_to_write_side (node_record_at (chip_after_prefix c (e ∷ es) k) x).wait side ≡ true)
+    × ((step : ℕ) → step < k → touches (event_at_place c (e ∷ es) step) x ≡ true → HappensBefore (trace_actions_of_events c (e ∷ es)) 0 step → ⊥)
 
 contended_mid : (c last : List NodeRecord) (e : Event) (mid post : List Event) (other : Event) (rivals : AreConflictingPasses e other) → replay c (e ∷ (mid ++ post)) ≡ Some last
-    → neighbour_of rivals.second.number rivals.other ≡ Some rivals.reader.number → waits_to_read_side (record_at c rivals.reader.number).wait rivals.other ≡ true
+    → neighbour_number rivals.second.number rivals.other ≡ Some rivals.reader.number → waits_to_read_side (node_record_at c rivals.reader.number).wait rivals.other ≡ true
     → IsPosted c e rivals.second.number rivals.other (mid ++ post) (suc (length mid)) → IsRace c (e ∷ (mid ++ post)) e other
 contended_mid c last e mid post other rivals h near reads posted =
     let p = first_of c e (mid ++ post) last h in
-    let b = begins mid post (after c e).0 last p.then in
+    let b = begins mid post (event_result c e).0 last p.then in
     contended_split mid c b.0 last e other post rivals p.can b.1 near reads
-    (ap (λ (z : List NodeRecord). waits_to_write_side (record_at z rivals.second.number).wait rivals.other) (sym (chip_there mid (after c e).0 b.0 post b.1)) ∙ posted.0)
-    (λ j l t. false_from_ne_true (touches (action_at (actions (after c e).0 mid) j).cause.event rivals.second.number)
-    (λ u. posted.1 (suc j) (omega (arith, l)) (ap (λ (a : TraceAction). touches a.cause.event rivals.second.number) (action_before mid (after c e).0 post j l) ∙ u)
+    (ap (λ (z : List NodeRecord). waits_to_write_side (node_record_at z rivals.second.number).wait rivals.other) (sym (chip_there mid (event_result c e).0 b.0 post b.1)) ∙ posted.0)
+    (λ j l t. false_from_ne_true (touches (trace_action_at (trace_actions_of_events (event_result c e).0 mid) j).cause.event rivals.second.number)
+    (λ u. posted.1 (suc j) (omega (arith, l)) (ap (λ (a : TraceAction). touches a.cause.event rivals.second.number) (action_before mid (event_result c e).0 post j l) ∙ u)
     (reached_first c e mid post b.0 j b.1 l t)))
 
 contended_now : (c : List NodeRecord) (e : Event) (es : List Event) (other : Event) (rivals : AreConflictingPasses e other)
-    → neighbour_of rivals.second.number rivals.other ≡ Some rivals.reader.number → waits_to_read_side (record_at c rivals.reader.number).wait rivals.other ≡ true
-    → waits_to_write_side (record_at c rivals.second.number).wait rivals.other ≡ true → IsRace c (e ∷ es) e other
+    → neighbour_number rivals.second.number rivals.other ≡ Some rivals.reader.number → waits_to_read_side (node_record_at c rivals.reader.number).wait rivals.other ≡ true
+    → waits_to_write_side (node_record_at c rivals.second.number).wait rivals.other ≡ true → IsRace c (e ∷ es) e other
 contended_now c e es other rivals near reads writes =
     let r : ℕ = rivals.reader.number in
     record {
@@ -351,7 +351,7 @@ contended_now c e es other rivals near reads writes =
     }
 
 contended_first : (c last : List NodeRecord) (e : Event) (es : List Event) (other : Event) (rivals : AreConflictingPasses e other) (k : ℕ) → replay c (e ∷ es) ≡ Some last → k ≤ length (e ∷ es)
-    → neighbour_of rivals.second.number rivals.other ≡ Some rivals.reader.number → waits_to_read_side (record_at c rivals.reader.number).wait rivals.other ≡ true
+    → neighbour_number rivals.second.number rivals.other ≡ Some rivals.reader.number → waits_to_read_side (node_record_at c rivals.reader.number).wait rivals.other ≡ true
     → IsPosted c e rivals.second.number rivals.other es k → IsRace c (e ∷ es) e other
 contended_first c last e es other rivals zero h l near reads posted = contended_now c e es other rivals near reads posted.0
 contended_first c last e es other rivals (suc k) h l near reads posted =
@@ -361,18 +361,18 @@ contended_first c last e es other rivals (suc k) h l near reads posted =
     (subst₂ (λ (z : List Event) (n : ℕ). IsPosted c e rivals.second.number rivals.other z (suc n)) s.is (sym s.size) posted))
 
 contended_at : (es : List Event) (c last : List NodeRecord) (i k : ℕ) (other : Event) (rivals : AreConflictingPasses (event_at_place c es i) other) → replay c es ≡ Some last → i < length es → i ≤ k → k ≤ length es
-    → neighbour_of rivals.second.number rivals.other ≡ Some rivals.reader.number → waits_to_read_side (record_at (chip_at c es i) rivals.reader.number).wait rivals.other ≡ true
-    → waits_to_write_side (record_at (chip_at c es k) rivals.second.number).wait rivals.other ≡ true
-    → ((step : ℕ) → step < k → touches (event_at_place c es step) rivals.second.number ≡ true → HappensBefore (actions c es) i step → ⊥)
+    → neighbour_number rivals.second.number rivals.other ≡ Some rivals.reader.number → waits_to_read_side (node_record_at (chip_after_prefix c es i) rivals.reader.number).wait rivals.other ≡ true
+    → waits_to_write_side (node_record_at (chip_after_prefix c es k) rivals.second.number).wait rivals.other ≡ true
+    → ((step : ℕ) → step < k → touches (event_at_place c es step) rivals.second.number ≡ true → HappensBefore (trace_actions_of_events c es) i step → ⊥)
     → IsRace c es (event_at_place c es i) other
 contended_at [] c last i k other rivals h s l m near reads writes none = absurd (omega (arith, s))
 contended_at (e ∷ es) c last zero k other rivals h s l m near reads writes none = contended_first c last e es other rivals k h m near reads (writes, none)
 contended_at (e ∷ es) c last (suc i) zero other rivals h s l m near reads writes none = absurd (omega (arith, l))
 contended_at (e ∷ es) c last (suc i) (suc k) other rivals h s l m near reads writes none =
     let p = first_of c e es last h in
-    race_later c e es (event_at_place (after c e).0 es i) other p.can
-    (contended_at es (after c e).0 last i k other rivals p.then (omega (arith, s)) (omega (arith, l)) (omega (arith, m)) near reads writes
-    (λ step n t b. none (suc step) (omega (arith, n)) t (happens_later (action_of c e) (actions (after c e).0 es) i step b)))
+    race_later c e es (event_at_place (event_result c e).0 es i) other p.can
+    (contended_at es (event_result c e).0 last i k other rivals p.then (omega (arith, s)) (omega (arith, l)) (omega (arith, m)) near reads writes
+    (λ step n t b. none (suc step) (omega (arith, n)) t (happens_later (trace_action_of_event c e) (trace_actions_of_events (event_result c e).0 es) i step b)))
 
 pub contended_races : (c last : List NodeRecord) (es : List Event) (i : ℕ) (other : Event) → replay c es ≡ Some last → IsContendedPass c es i other → IsRace c es (event_at_place c es i) other
 contended_races c last es i other h n = contended_at es c last i n.posted other n.rivals h n.stands n.before n.within n.near n.reads n.writes n.none

@@ -2,15 +2,15 @@
 use Rattle.std.proofs.Common.{◌≡◌, ℕ, zero, suc, ◌+◌, ◌<◌, ◌≤◌, Bool, true, false, cond, List, [], ◌∷◌, ◌++◌, length, Some, refl, sym, ◌∙◌, ap, ap₂, subst₂, arith}
 use Rattle.std.proofs.lemmas.List.Sums.{sum_by-cons}
 use Rattle.ga_node.specs.Record.{NodeRecord}
-use Rattle.ga_grid.specs.Chip.{record_at}
+use Rattle.ga_grid.specs.Chip.{node_record_at}
 use Rattle.ga_event.specs.declared.event.Event.{Event}
 use Rattle.ga_event.specs.Touches.{touches}
-use Rattle.ga_event.specs.Apply.{after, replay}
+use Rattle.ga_event.specs.Apply.{event_result, replay}
 use Rattle.ga_event.specs.Told.{count_steps}
-use Rattle.ga_causal.specs.Words.{local_history_with_reads}
+use Rattle.ga_causal.specs.Words.{local_history_with_outside_words}
 use Rattle.ga_causal.proofs.Words.{same_node}
 use Rattle.ga_races.specs.Orders.{AreReorderings}
-use Rattle.ga_races.specs.HappensBefore.{TraceAction, actions, action_at, chip_at}
+use Rattle.ga_races.specs.HappensBefore.{TraceAction, trace_actions_of_events, trace_action_at, chip_after_prefix}
 use Rattle.ga_races.proofs.Orders.{order_replay, order_read, steps_read}
 use Rattle.ga_races.proofs.Exact.{read_into, Entry}
 use Rattle.ga_races.proofs.Moves.{tally}
@@ -27,39 +27,39 @@ prefix_same (x ∷ us) vs (y ∷ ws) zs h k =
     let p = head_is x y (us ++ vs) (ws ++ zs) h in
     ap₂ (λ (u : Entry) (z : List Entry). u ∷ z) p.0 (prefix_same us vs ws zs p.1 (omega (arith, k)))
 
-pub tally_total : (n : ℕ) (fs : List Event) (c : List NodeRecord) → tally n (actions c fs) (length fs) ≡ count_steps n fs
+pub tally_total : (n : ℕ) (fs : List Event) (c : List NodeRecord) → tally n (trace_actions_of_events c fs) (length fs) ≡ count_steps n fs
 tally_total n [] c = refl
-tally_total n (f ∷ fs) c = ap (λ (z : ℕ). cond (touches f n) 1 0 + z) (tally_total n fs (after c f).0) ∙ sym (sum_by-cons (λ (x : Event). cond (touches x n) 1 0) f fs)
+tally_total n (f ∷ fs) c = ap (λ (z : ℕ). cond (touches f n) 1 0 + z) (tally_total n fs (event_result c f).0) ∙ sym (sum_by-cons (λ (x : Event). cond (touches x n) 1 0) f fs)
 
 tally_zero : (n : ℕ) (xs : List TraceAction) → tally n xs 0 ≡ 0
 tally_zero n [] = refl
 tally_zero n (a ∷ xs) = refl
 
-tally_front : (n : ℕ) (fs ys : List Event) (c : List NodeRecord) → tally n (actions c (fs ++ ys)) (length fs) ≡ count_steps n fs
-tally_front n [] ys c = tally_zero n (actions c ys)
-tally_front n (f ∷ fs) ys c = ap (λ (z : ℕ). cond (touches f n) 1 0 + z) (tally_front n fs ys (after c f).0) ∙ sym (sum_by-cons (λ (x : Event). cond (touches x n) 1 0) f fs)
+tally_front : (n : ℕ) (fs ys : List Event) (c : List NodeRecord) → tally n (trace_actions_of_events c (fs ++ ys)) (length fs) ≡ count_steps n fs
+tally_front n [] ys c = tally_zero n (trace_actions_of_events c ys)
+tally_front n (f ∷ fs) ys c = ap (λ (z : ℕ). cond (touches f n) 1 0 + z) (tally_front n fs ys (event_result c f).0) ∙ sym (sum_by-cons (λ (x : Event). cond (touches x n) 1 0) f fs)
 
 record_split : (c last : List NodeRecord) (xs xs' ys ys' : List Event) (n : ℕ) → replay c (xs ++ xs') ≡ Some last → AreReorderings c (xs ++ xs') (ys ++ ys')
-    → tally n (actions c (xs ++ xs')) (length xs) ≡ tally n (actions c (ys ++ ys')) (length ys) → record_at (chip_at c (xs ++ xs') (length xs)) n ≡ record_at (chip_at c (ys ++ ys') (length ys)) n
+    → tally n (trace_actions_of_events c (xs ++ xs')) (length xs) ≡ tally n (trace_actions_of_events c (ys ++ ys')) (length ys) → node_record_at (chip_after_prefix c (xs ++ xs') (length xs)) n ≡ node_record_at (chip_after_prefix c (ys ++ ys') (length ys)) n
 record_split c last xs xs' ys ys' n h order same_count =
     let a = begins xs xs' c last h in
     let b = begins ys ys' c last (sym (order_replay c (xs ++ xs') (ys ++ ys') order) ∙ h) in
-    let size : length (local_history_with_reads n c xs) ≡ length (local_history_with_reads n c ys) =
+    let size : length (local_history_with_outside_words n c xs) ≡ length (local_history_with_outside_words n c ys) =
     steps_read n c xs ∙ sym (tally_front n xs xs' c) ∙ same_count ∙ tally_front n ys ys' c ∙ sym (steps_read n c ys) in
-    let read : local_history_with_reads n c xs ≡ local_history_with_reads n c ys =
-    prefix_same (local_history_with_reads n c xs) (local_history_with_reads n a.0 xs') (local_history_with_reads n c ys) (local_history_with_reads n b.0 ys')
+    let read : local_history_with_outside_words n c xs ≡ local_history_with_outside_words n c ys =
+    prefix_same (local_history_with_outside_words n c xs) (local_history_with_outside_words n a.0 xs') (local_history_with_outside_words n c ys) (local_history_with_outside_words n b.0 ys')
     (sym (read_into n xs xs' c a.0 a.1) ∙ order_read n c (xs ++ xs') (ys ++ ys') order ∙ read_into n ys ys' c b.0 b.1) size in
-    ap (λ (z : List NodeRecord). record_at z n) (chip_there xs c a.0 xs' a.1)
+    ap (λ (z : List NodeRecord). node_record_at z n) (chip_there xs c a.0 xs' a.1)
     ∙ same_node c c a.0 b.0 xs ys n a.1 b.1 refl refl read
-    ∙ ap (λ (z : List NodeRecord). record_at z n) (sym (chip_there ys c b.0 ys' b.1))
+    ∙ ap (λ (z : List NodeRecord). node_record_at z n) (sym (chip_there ys c b.0 ys' b.1))
 
 pub record_same : (c last : List NodeRecord) (xs ys : List Event) (n i p : ℕ) → replay c xs ≡ Some last → AreReorderings c xs ys → i ≤ length xs → p ≤ length ys
-    → tally n (actions c xs) i ≡ tally n (actions c ys) p → record_at (chip_at c xs i) n ≡ record_at (chip_at c ys p) n
+    → tally n (trace_actions_of_events c xs) i ≡ tally n (trace_actions_of_events c ys) p → node_record_at (chip_after_prefix c xs i) n ≡ node_record_at (chip_after_prefix c ys p) n
 record_same c last xs ys n i p h order l m same_count =
     let s : Split xs i = split_at xs i l in
     let t : Split ys p = split_at ys p m in
-    subst₂ (λ (u v : ℕ). tally n (actions c xs) u ≡ tally n (actions c ys) v → record_at (chip_at c xs u) n ≡ record_at (chip_at c ys v) n) s.size t.size
-    (subst₂ (λ (u v : List Event). AreReorderings c u v → replay c u ≡ Some last → tally n (actions c u) (length s.mid) ≡ tally n (actions c v) (length t.mid) → record_at (chip_at c u (length s.mid)) n ≡ record_at (chip_at c v (length t.mid)) n)
+    subst₂ (λ (u v : ℕ). tally n (trace_actions_of_events c xs) u ≡ tally n (trace_actions_of_events c ys) v → node_record_at (chip_after_prefix c xs u) n ≡ node_record_at (chip_after_prefix c ys v) n) s.size t.size
+    (subst₂ (λ (u v : List Event). AreReorderings c u v → replay c u ≡ Some last → tally n (trace_actions_of_events c u) (length s.mid) ≡ tally n (trace_actions_of_events c v) (length t.mid) → node_record_at (chip_after_prefix c u (length s.mid)) n ≡ node_record_at (chip_after_prefix c v (length t.mid)) n)
     (sym s.is) (sym t.is) (λ o k q. record_split c last s.mid s.post t.mid t.post n k o q) order h) same_count
 
 -- ---- the places of a node's steps
@@ -112,7 +112,7 @@ pub record IsBelow (n : ℕ) (xs : List TraceAction) (i a : ℕ) : Type 0 where
   pub at : ℕ
   pub before : at < i
   pub within : at < length xs
-  pub touched : touches (action_at xs at).cause.event n ≡ true
+  pub touched : touches (trace_action_at xs at).cause.event n ≡ true
   pub is : tally n xs at ≡ a
 
 pub below : (n : ℕ) (xs : List TraceAction) (i a : ℕ) → a < tally n xs i → IsBelow n xs i a

@@ -3,8 +3,8 @@
 use Rattle.std.specs.Prelude.{◌≡◌, true, List, ◌∷◌, ◌++◌, Some}
 use Rattle.ga_ports.specs.declared.side.Side.{Side}
 use Rattle.ga_node.specs.Record.{NodeRecord}
-use Rattle.ga_grid.specs.Grid.{neighbour_of}
-use Rattle.ga_grid.specs.Chip.{record_at}
+use Rattle.ga_grid.specs.Grid.{neighbour_number}
+use Rattle.ga_grid.specs.Chip.{node_record_at}
 use Rattle.ga_grid.specs.declared.node_id.NodeId.{NodeId}
 use Rattle.ga_event.specs.declared.event.Event.{Event}
 use Rattle.ga_event.specs.declared.event.Event.TheVariants.{Pass}
@@ -15,7 +15,7 @@ use Rattle.ga_event.specs.Apply.{waits_to_write_side, waits_to_read_side, replay
 pub record HasOneWriter (chip : List NodeRecord) (events : List Event) : Type 0 where
   pub only : (before later first others : List Event) (now then : List NodeRecord) (writer reader neighbour : NodeId) (side another : Side)
       → events ≡ before ++ Pass writer reader side ∷ later → replay chip before ≡ Some now
-      → waits_to_read_side (record_at now reader.number).wait another ≡ true
+      → waits_to_read_side (node_record_at now reader.number).wait another ≡ true
       → events ≡ first ++ others → replay chip first ≡ Some then
-      → neighbour_of neighbour.number another ≡ Some reader.number → waits_to_write_side (record_at then neighbour.number).wait another ≡ true
+      → neighbour_number neighbour.number another ≡ Some reader.number → waits_to_write_side (node_record_at then neighbour.number).wait another ≡ true
       → another ≡ side

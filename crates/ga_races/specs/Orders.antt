@@ -5,47 +5,47 @@ use Rattle.std.specs.Prelude.{ℕ, zero, suc, ◌+◌, ◌%◌, nat_lt, Bool, �
 use Rattle.ga_node.specs.Record.{NodeRecord}
 use Rattle.ga_grid.specs.declared.node_id.NodeId.{NodeId}
 use Rattle.ga_grid.specs.Grid.{node_id}
-use Rattle.ga_event.specs.Next.{next}
+use Rattle.ga_event.specs.Next.{next_event_of_node}
 use Rattle.ga_ports.specs.declared.side.Side.{Side}
 use Rattle.ga_event.specs.declared.event.Event.{Event}
 use Rattle.ga_event.specs.declared.event.Event.TheVariants.{Pass}
 use Rattle.ga_event.specs.Touches.{touches}
-use Rattle.ga_event.specs.Apply.{refusal_of, after, replay}
-use Rattle.ga_causal.specs.Words.{received_word}
+use Rattle.ga_event.specs.Apply.{event_refusal, event_result, replay}
+use Rattle.ga_causal.specs.Words.{outside_word_of_event}
 
 -- ---- A set of nodes that holds those that have an event
 
 -- the node of this number has an event
-abbrev pub has_event : List NodeRecord → ℕ → Bool
-has_event chip n = nat_lt n 144 && is_ok (next chip (node_id n))
+abbrev pub node_has_event : List NodeRecord → ℕ → Bool
+node_has_event chip n = nat_lt n 144 && is_ok (next_event_of_node chip (node_id n))
 
 -- the first of k numbers from this one on, round the chip, that passes a test
-abbrev pub first_node_from : (ℕ → Bool) → ℕ → ℕ → Option NodeId
-first_node_from test n zero = None
-first_node_from test n (suc k) = if test (n % 144) then Some (node_id n) else first_node_from test (n + 1) k
+abbrev pub first_node_from_that_passes_test : (ℕ → Bool) → ℕ → ℕ → Option NodeId
+first_node_from_that_passes_test test n zero = None
+first_node_from_that_passes_test test n (suc k) = if test (n % 144) then Some (node_id n) else first_node_from_that_passes_test test (n + 1) k
 
 -- whether the event is enabled on the chip
 abbrev pub IsEnabled : List NodeRecord → Event → Type 0
-IsEnabled chip event = refusal_of chip event ≡ None
+IsEnabled chip event = event_refusal chip event ≡ None
 
 -- whether no event is enabled on the chip
 abbrev pub IsTerminalChip : List NodeRecord → Type 0
 IsTerminalChip chip = (event : Event) → IsEnabled chip event → ⊥
 
 -- Two events touch no common node, and to each comes the same word from outside (in a pass, in `io`) where the other is made first.
-pub record AreIndependentOn (chip : List NodeRecord) (e f : Event) : Type 0 where
+pub record AreIndependentOnChip (chip : List NodeRecord) (e f : Event) : Type 0 where
   pub apart : (n : ℕ) → touches e n ≡ true → touches f n ≡ false
-  pub first : received_word (after chip f).0 e ≡ received_word chip e
-  pub second : received_word (after chip e).0 f ≡ received_word chip f
+  pub first : outside_word_of_event (event_result chip f).0 e ≡ outside_word_of_event chip e
+  pub second : outside_word_of_event (event_result chip e).0 f ≡ outside_word_of_event chip f
 
 -- On a chip, the one list is the other in another order: they differ by swaps of neighbours that are independent where they
 -- are.
 pub data AreReorderings : List NodeRecord → List Event → List Event → Type 0 where
   same : {chip : List NodeRecord} {xs : List Event} → AreReorderings chip xs xs
   swapped : {chip : List NodeRecord} {e f : Event} {xs : List Event}
-      → IsEnabled chip e → IsEnabled chip f → AreIndependentOn chip e f → AreReorderings chip (e ∷ f ∷ xs) (f ∷ e ∷ xs)
+      → IsEnabled chip e → IsEnabled chip f → AreIndependentOnChip chip e f → AreReorderings chip (e ∷ f ∷ xs) (f ∷ e ∷ xs)
   later : {chip : List NodeRecord} {e : Event} {xs ys : List Event}
-      → IsEnabled chip e → AreReorderings (after chip e).0 xs ys → AreReorderings chip (e ∷ xs) (e ∷ ys)
+      → IsEnabled chip e → AreReorderings (event_result chip e).0 xs ys → AreReorderings chip (e ∷ xs) (e ∷ ys)
   joined : {chip : List NodeRecord} {xs ys zs : List Event}
       → AreReorderings chip xs ys → AreReorderings chip ys zs → AreReorderings chip xs zs
 
@@ -59,7 +59,7 @@ pub record IsRace (chip : List NodeRecord) (events : List Event) (step other : E
   pub led : replay chip before ≡ Some now
   pub can : IsEnabled now other
   pub differ : step ≢ other
-  pub bound : AreIndependentOn now step other → ⊥
+  pub bound : AreIndependentOnChip now step other → ⊥
 
 abbrev pub HasNoRace : List NodeRecord → List Event → Type 0
 HasNoRace chip events = (step other : Event) → IsRace chip events step other → ⊥

@@ -4,7 +4,7 @@
 use Rattle.std.specs.Prelude.{◌≡◌, ℕ, false, not, List, ◌++◌, Some, All}
 use Rattle.std.specs.List.{filter}
 use Rattle.ga_node.specs.Record.{NodeRecord}
-use Rattle.ga_grid.specs.Chip.{record_at}
+use Rattle.ga_grid.specs.Chip.{node_record_at}
 use Rattle.ga_event.specs.declared.event.Event.{Event}
 use Rattle.ga_event.specs.declared.event.Event.TheVariants.{Own, Pass}
 use Rattle.ga_event.specs.Touches.{touches}
@@ -26,7 +26,7 @@ pub record IsPollingRound (chip : List NodeRecord) (n : ℕ) (events : List Even
   pub last : List NodeRecord
   pub led : replay chip events ≡ Some last
   pub own : All (IsNoTransferWithNode n) events
-  pub back : record_at last n ≡ record_at chip n
+  pub back : node_record_at last n ≡ node_record_at chip n
 
 -- no node makes a round in the list
 abbrev pub HasNoPollingRound : List NodeRecord → List Event → Type 0

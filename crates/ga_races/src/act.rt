@@ -2,13 +2,13 @@
 
 ghost use Rattle.std.specs.Prelude.{◌≡◌, ◌&&◌, ◌||◌};
 ghost use Rattle.std.specs.List.{list_any};
-ghost use Rattle.ga_grid.specs.Grid.{neighbour_of};
-ghost use Rattle.ga_event.specs.Apply.{equals_some};
-ghost use Rattle.ga_causal.specs.Dependence.{cause_touches, touched_nodes};
-ghost use Rattle.ga_races.specs.Acts.{has_side_to, action_of_access};
-ghost use Rattle.ga_races.specs.HappensBefore.{are_dependent, is_look_changed_by};
+ghost use Rattle.ga_grid.specs.Grid.{neighbour_number};
+ghost use Rattle.ga_event.specs.Apply.{equals_optional_number};
+ghost use Rattle.ga_causal.specs.Dependence.{event_with_look_touches_node, touched_nodes};
+ghost use Rattle.ga_races.specs.Acts.{has_side_towards_node, trace_action_of_event_access};
+ghost use Rattle.ga_races.specs.HappensBefore.{are_dependent_actions, is_look_changed_by};
 
-use ga_event::{Cause, Event, touches};
+use ga_event::{Event, EventWithLook, touches};
 use ga_grid::{NodeId, neighbour};
 use ga_ports::Side;
 
@@ -29,7 +29,7 @@ pub struct SideSet {
 #[derive(Clone, Copy, PartialEq, Eq, Debug)]
 pub struct EventAccess {
     /// The event, with whether it looked.
-    pub cause: Cause,
+    pub cause: EventWithLook,
     /// The sides on which the node of the event changed what it shows; of a pass those of the writer.
     pub first: SideSet,
     /// The sides on which the reader of a pass changed what it shows.
@@ -38,7 +38,7 @@ pub struct EventAccess {
 
 // Whether a side, if it is one of some, leads from the first node to the second.
 fn leads_over(from: NodeId, side: Side, has: bool, to: NodeId) -> bool
-    ensures { result ≡ (has && equals_some (neighbour_of from.number side) to.number) }
+    ensures { result ≡ (has && equals_optional_number (neighbour_number from.number side) to.number) }
 {
     match neighbour(from, side) {
         Some(other) => has && other.number == to.number,
@@ -49,7 +49,7 @@ fn leads_over(from: NodeId, side: Side, has: bool, to: NodeId) -> bool
 impl SideSet {
     /// Whether one of the sides leads from the first node to the second.
     pub fn leads_between(&self, from: NodeId, to: NodeId) -> bool
-        ensures { result ≡ has_side_to self.now from.number to.number }
+        ensures { result ≡ has_side_towards_node self.now from.number to.number }
     {
         leads_over(from, Side::Right, self.right, to)
             || leads_over(from, Side::Down, self.down, to)
@@ -60,8 +60,8 @@ impl SideSet {
 
 impl EventAccess {
     /// Whether the event changed what is shown to the node.
-    pub fn changes(&self, node: NodeId) -> bool
-        ensures { result ≡ (action_of_access self.now).changes node.number }
+    pub fn changes_shown_state(&self, node: NodeId) -> bool
+        ensures { result ≡ (trace_action_of_event_access self.now).changes node.number }
     {
         match self.cause.event {
             Event::Own(own) => self.first.leads_between(own, node),
@@ -72,18 +72,19 @@ impl EventAccess {
     }
 
     // Whether the event changed what is shown to one of the nodes that another event touches.
-    fn changes_some(&self, event: &Cause) -> bool
-        ensures { result ≡ list_any (action_of_access self.now).changes (touched_nodes event.now) }
+    fn changes_some(&self, event: &EventWithLook) -> bool
+        ensures { result ≡ list_any (trace_action_of_event_access self.now).changes (touched_nodes event.now) }
     {
         match event.event {
-            Event::Own(node) => self.changes(node),
-            Event::Pass { writer, reader, .. } => self.changes(writer) || self.changes(reader),
+            Event::Own(node) => self.changes_shown_state(node),
+            Event::Pass { writer, reader, .. } => self.changes_shown_state(writer)
+                || self.changes_shown_state(reader),
         }
     }
 
     // Whether two events touch a common node.
-    fn has_common_node(&self, event: &Cause) -> bool
-        ensures { result ≡ list_any (cause_touches self.now.cause) (touched_nodes event.now) }
+    fn has_common_node(&self, event: &EventWithLook) -> bool
+        ensures { result ≡ list_any (event_with_look_touches_node self.now.cause) (touched_nodes event.now) }
     {
         match event.event {
             Event::Own(node) => touches(self.cause.event, node),
@@ -95,14 +96,14 @@ impl EventAccess {
 
     // Whether the event is a look, and the other changes what is shown to it.
     fn is_look_changed_by(&self, other: &EventAccess) -> bool
-        ensures { result ≡ is_look_changed_by (action_of_access self.now) (action_of_access other.now) }
+        ensures { result ≡ is_look_changed_by (trace_action_of_event_access self.now) (trace_action_of_event_access other.now) }
     {
         self.cause.look && other.changes_some(&self.cause)
     }
 
     /// Whether two events keep their order in each order of a list in which they are neighbours.
-    pub fn is_dependent(&self, other: &EventAccess) -> bool
-        ensures { result ≡ are_dependent (action_of_access self.now) (action_of_access other.now) }
+    pub fn keeps_order_with_event(&self, other: &EventAccess) -> bool
+        ensures { result ≡ are_dependent_actions (trace_action_of_event_access self.now) (trace_action_of_event_access other.now) }
     {
         self.has_common_node(&other.cause)
             || self.is_look_changed_by(other)
@@ -111,7 +112,7 @@ impl EventAccess {
 
     /// Whether two events touch a common node.
     pub fn shares_node(&self, other: &EventAccess) -> bool
-        ensures { result ≡ list_any (cause_touches self.now.cause) (touched_nodes other.now.cause) }
+        ensures { result ≡ list_any (event_with_look_touches_node self.now.cause) (touched_nodes other.now.cause) }
     {
         self.has_common_node(&other.cause)
     }

@@ -9,7 +9,7 @@ mod racing_pairs;
 mod same;
 
 pub use act::{EventAccess, SideSet};
-pub use deadlock::{awaits, find_deadlocked};
+pub use deadlock::{awaits_side, find_deadlocked_nodes};
 pub use links::are_neighbours;
 pub use racing_pairs::{RacingPair, find_racing_pairs};
-pub use same::is_same_node;
+pub use same::are_equal_nodes;

@@ -1,19 +1,19 @@
 //! Looks and changes of what is shown to them, between which nothing happens.
 
 ghost use Rattle.std.specs.Prelude.{◌≡◌, ◌≢◌, ◌<◌, ◌^◌, ◌↔◌, ◌⊎◌, ◌&&◌, ◌||◌, ◌++◌, ◌∷◌, [], ℕ, true, false, length, Contains, OnOk, IfOk};
-ghost use Rattle.ga_grid.specs.Grid.{neighbour_of};
+ghost use Rattle.ga_grid.specs.Grid.{neighbour_number};
 ghost use Rattle.std.specs.List.{list_any};
-ghost use Rattle.ga_causal.specs.Dependence.{cause_touches, touched_nodes, is_marked};
-ghost use Rattle.ga_event.specs.Apply.{equals_some};
+ghost use Rattle.ga_causal.specs.Dependence.{event_with_look_touches_node, touched_nodes, is_node_flagged};
+ghost use Rattle.ga_event.specs.Apply.{equals_optional_number};
 ghost use Rattle.ga_races.specs.declared.racing_pairs.RacingPair.{RacingPair};
-ghost use Rattle.ga_races.specs.HappensBefore.{action_at, AreRacing};
-ghost use Rattle.ga_races.specs.Acts.{has_side_to, action_of_access, actions_of_accesses, is_own_event_of, is_look_of_node, IsRacingLook};
-ghost use Rattle.ga_races.specs.inner.{IsMore, OfPair, OfLook, OfChange, OverSide, OverSides, AtPlace, LooksAreMarked};
+ghost use Rattle.ga_races.specs.HappensBefore.{trace_action_at, AreRacingActions};
+ghost use Rattle.ga_races.specs.Acts.{has_side_towards_node, trace_action_of_event_access, trace_actions_of_accesses, is_node_own_event, is_look_of_node, IsRacingLook};
+ghost use Rattle.ga_races.specs.inner.{AddsRacingPairs, IsPairAtPlaces, IsPairWithLookAtPlace, IsPairWithChangeAtPlace, IsPairWithLookOverSide, IsPairWithLookOverSides, IsPairWithLaterAtPlace, AreLookingNodesMarked};
 
 use crate::act::{EventAccess, SideSet};
 use ga_causal::NodeSet;
-use ga_event::{Cause, Event};
-use ga_grid::{Memory, NodeId, neighbour};
+use ga_event::{Event, EventWithLook};
+use ga_grid::{NodeId, OutOfMemoryError, neighbour};
 use ga_ports::Side;
 use reached::{both, is_between, mark_look};
 use std::alloc::Global;
@@ -32,7 +32,7 @@ pub struct RacingPair {
 // The action at a place.
 fn act_at(acts: &[EventAccess], place: usize) -> EventAccess
     requires { place < length acts.now }
-    ensures { action_of_access result ≡ action_at (actions_of_accesses acts.now) place }
+    ensures { trace_action_of_event_access result ≡ trace_action_at (trace_actions_of_accesses acts.now) place }
 {
     acts[place]
 }
@@ -41,11 +41,11 @@ fn act_at(acts: &[EventAccess], place: usize) -> EventAccess
 fn is_near(acts: &[EventAccess], first: usize, later: usize) -> bool
     requires order { first < later }
     requires within { later < length acts.now }
-    ensures { (result ≡ true) ↔ AreRacing (actions_of_accesses acts.now) first later }
+    ensures { (result ≡ true) ↔ AreRacingActions (trace_actions_of_accesses acts.now) first later }
 {
     let act = act_at(acts, first);
     let end = act_at(acts, later);
-    if act.shares_node(&end) || !act.is_dependent(&end) {
+    if act.shares_node(&end) || !act.keeps_order_with_event(&end) {
         return false;
     }
     !is_between(acts, first, later)
@@ -56,7 +56,7 @@ fn are_near(acts: &[EventAccess], one: usize, other: usize) -> bool
     requires one { one < length acts.now }
     requires other { other < length acts.now }
     requires apart { one ≢ other }
-    ensures { (result ≡ true) ↔ (AreRacing (actions_of_accesses acts.now) one other ⊎ AreRacing (actions_of_accesses acts.now) other one) }
+    ensures { (result ≡ true) ↔ (AreRacingActions (trace_actions_of_accesses acts.now) one other ⊎ AreRacingActions (trace_actions_of_accesses acts.now) other one) }
 {
     if one < other {
         is_near(acts, one, other)
@@ -68,7 +68,7 @@ fn are_near(acts: &[EventAccess], one: usize, other: usize) -> bool
 // Whether the action at a place is a look of the node.
 fn is_look_of_node(acts: &[EventAccess], place: usize, node: NodeId) -> bool
     requires { place < length acts.now }
-    ensures { result ≡ is_look_of_node (action_at (actions_of_accesses acts.now) place) node.number }
+    ensures { result ≡ is_look_of_node (trace_action_at (trace_actions_of_accesses acts.now) place) node.number }
 {
     let act = act_at(acts, place);
     match act.cause.event {
@@ -80,13 +80,13 @@ fn is_look_of_node(acts: &[EventAccess], place: usize, node: NodeId) -> bool
 // Whether the action at a place changes what is shown to the node.
 fn changes(acts: &[EventAccess], place: usize, node: NodeId) -> bool
     requires { place < length acts.now }
-    ensures { result ≡ (action_at (actions_of_accesses acts.now) place).changes node.number }
+    ensures { result ≡ (trace_action_at (trace_actions_of_accesses acts.now) place).changes node.number }
 {
-    act_at(acts, place).changes(node)
+    act_at(acts, place).changes_shown_state(node)
 }
 
 // Puts two places at the end of a list.
-fn add(list: &mut Vec<RacingPair>, look: usize, change: usize) -> Result<(), Memory>
+fn add(list: &mut Vec<RacingPair>, look: usize, change: usize) -> Result<(), OutOfMemoryError>
     requires looks { look < 2 ^ 32 }
     requires changes { change < 2 ^ 32 }
     ensures { OnOk result (list.new.items ≡ list.old.items ++ record { look = look; change = change } ∷ []) }
@@ -105,14 +105,14 @@ fn add_near(
     look: usize,
     change: usize,
     node: NodeId,
-) -> Result<(), Memory>
+) -> Result<(), OutOfMemoryError>
     requires look { look < length acts.now }
     requires change { change < length acts.now }
     requires apart { look ≢ change }
     requires few { length acts.now < 2 ^ 32 }
-    requires looks { is_look_of_node (action_at (actions_of_accesses acts.now) look) node.number ≡ true }
-    requires changes { (action_at (actions_of_accesses acts.now) change).changes node.number ≡ true }
-    ensures { OnOk result (IsMore acts.now (OfPair look change) list.old.items list.new.items) }
+    requires looks { is_look_of_node (trace_action_at (trace_actions_of_accesses acts.now) look) node.number ≡ true }
+    requires changes { (trace_action_at (trace_actions_of_accesses acts.now) change).changes node.number ≡ true }
+    ensures { OnOk result (AddsRacingPairs acts.now (IsPairAtPlaces look change) list.old.items list.new.items) }
 {
     if !are_near(acts, look, change) {
         return Ok(());
@@ -127,12 +127,12 @@ fn add_change(
     look: usize,
     change: usize,
     node: NodeId,
-) -> Result<(), Memory>
+) -> Result<(), OutOfMemoryError>
     requires order { change < look }
     requires within { look < length acts.now }
     requires few { length acts.now < 2 ^ 32 }
-    requires looks { is_look_of_node (action_at (actions_of_accesses acts.now) look) node.number ≡ true }
-    ensures { OnOk result (IsMore acts.now (OfPair look change) list.old.items list.new.items) }
+    requires looks { is_look_of_node (trace_action_at (trace_actions_of_accesses acts.now) look) node.number ≡ true }
+    ensures { OnOk result (AddsRacingPairs acts.now (IsPairAtPlaces look change) list.old.items list.new.items) }
 {
     if !changes(acts, change, node) {
         return Ok(());
@@ -147,11 +147,11 @@ fn add_changes(
     acts: &[EventAccess],
     look: usize,
     node: NodeId,
-) -> Result<(), Memory>
+) -> Result<(), OutOfMemoryError>
     requires within { look < length acts.now }
     requires few { length acts.now < 2 ^ 32 }
-    requires own { is_own_event_of (action_at (actions_of_accesses acts.now) look).cause.event node.number ≡ true }
-    ensures { OnOk result (IsMore acts.now (OfLook look 0) list.old.items list.new.items) }
+    requires own { is_node_own_event (trace_action_at (trace_actions_of_accesses acts.now) look).cause.event node.number ≡ true }
+    ensures { OnOk result (AddsRacingPairs acts.now (IsPairWithLookAtPlace look 0) list.old.items list.new.items) }
 {
     if !is_look_of_node(acts, look, node) {
         return Ok(());
@@ -171,12 +171,12 @@ fn add_changes(
 fn hides(acts: &[EventAccess], place: usize, change: usize, node: NodeId) -> bool
     requires place { place < length acts.now }
     requires change { change < length acts.now }
-    ensures { result ≡ ((action_at (actions_of_accesses acts.now) place).changes node.number
-        && list_any (cause_touches (action_at (actions_of_accesses acts.now) place).cause) (touched_nodes (action_at (actions_of_accesses acts.now) change).cause)) }
+    ensures { result ≡ ((trace_action_at (trace_actions_of_accesses acts.now) place).changes node.number
+        && list_any (event_with_look_touches_node (trace_action_at (trace_actions_of_accesses acts.now) place).cause) (touched_nodes (trace_action_at (trace_actions_of_accesses acts.now) change).cause)) }
 {
     let act = act_at(acts, place);
     let end = act_at(acts, change);
-    act.changes(node) && act.shares_node(&end)
+    act.changes_shown_state(node) && act.shares_node(&end)
 }
 
 // Adds the last look of a node, if it and a change of what is shown to it are a racing pair. No look before an earlier such
@@ -186,11 +186,11 @@ fn add_look(
     acts: &[EventAccess],
     change: usize,
     node: NodeId,
-) -> Result<(), Memory>
+) -> Result<(), OutOfMemoryError>
     requires within { change < length acts.now }
     requires few { length acts.now < 2 ^ 32 }
-    requires changes { (action_at (actions_of_accesses acts.now) change).changes node.number ≡ true }
-    ensures { OnOk result (IsMore acts.now (OfChange acts.now change node.number) list.old.items list.new.items) }
+    requires changes { (trace_action_at (trace_actions_of_accesses acts.now) change).changes node.number ≡ true }
+    ensures { OnOk result (AddsRacingPairs acts.now (IsPairWithChangeAtPlace acts.now change node.number) list.old.items list.new.items) }
 {
     let mut place = change;
     'back: while place > 0 {
@@ -212,13 +212,13 @@ fn add_look_over(
     change: usize,
     looked: &NodeSet,
     over: (NodeId, Side, bool),
-) -> Result<(), Memory>
+) -> Result<(), OutOfMemoryError>
     requires within { change < length acts.now }
     requires few { length acts.now < 2 ^ 32 }
-    requires looked { LooksAreMarked acts.now change (is_marked looked.now) }
-    requires changes { (n : ℕ) → (over.2 && equals_some (neighbour_of over.0.number over.1) n) ≡ true →
-        (action_at (actions_of_accesses acts.now) change).changes n ≡ true }
-    ensures { OnOk result (IsMore acts.now (OverSide acts.now change over.0.number over.1 over.2) list.old.items list.new.items) }
+    requires looked { AreLookingNodesMarked acts.now change (is_node_flagged looked.now) }
+    requires changes { (n : ℕ) → (over.2 && equals_optional_number (neighbour_number over.0.number over.1) n) ≡ true →
+        (trace_action_at (trace_actions_of_accesses acts.now) change).changes n ≡ true }
+    ensures { OnOk result (AddsRacingPairs acts.now (IsPairWithLookOverSide acts.now change over.0.number over.1 over.2) list.old.items list.new.items) }
 {
     let (from, side, has) = over;
     match neighbour(from, side) {
@@ -240,13 +240,13 @@ fn add_looks_beside(
     change: usize,
     looked: &NodeSet,
     from: (NodeId, SideSet),
-) -> Result<(), Memory>
+) -> Result<(), OutOfMemoryError>
     requires within { change < length acts.now }
     requires few { length acts.now < 2 ^ 32 }
-    requires looked { LooksAreMarked acts.now change (is_marked looked.now) }
-    requires changes { (n : ℕ) → has_side_to from.1 from.0.number n ≡ true →
-        (action_at (actions_of_accesses acts.now) change).changes n ≡ true }
-    ensures { OnOk result (IsMore acts.now (OverSides acts.now change from.0.number from.1) list.old.items list.new.items) }
+    requires looked { AreLookingNodesMarked acts.now change (is_node_flagged looked.now) }
+    requires changes { (n : ℕ) → has_side_towards_node from.1 from.0.number n ≡ true →
+        (trace_action_at (trace_actions_of_accesses acts.now) change).changes n ≡ true }
+    ensures { OnOk result (AddsRacingPairs acts.now (IsPairWithLookOverSides acts.now change from.0.number from.1) list.old.items list.new.items) }
 {
     let (node, sides) = from;
     add_look_over(list, acts, change, looked, (node, Side::Right, sides.right))?;
@@ -262,11 +262,11 @@ fn add_at(
     acts: &[EventAccess],
     place: usize,
     looked: &NodeSet,
-) -> Result<(), Memory>
+) -> Result<(), OutOfMemoryError>
     requires within { place < length acts.now }
     requires few { length acts.now < 2 ^ 32 }
-    requires looked { LooksAreMarked acts.now place (is_marked looked.now) }
-    ensures { OnOk result (IsMore acts.now (AtPlace place) list.old.items list.new.items) }
+    requires looked { AreLookingNodesMarked acts.now place (is_node_flagged looked.now) }
+    ensures { OnOk result (AddsRacingPairs acts.now (IsPairWithLaterAtPlace place) list.old.items list.new.items) }
 {
     let act = act_at(acts, place);
     match act.cause.event {
@@ -288,7 +288,10 @@ fn add_at(
 ///
 /// # Errors
 /// `Memory` alone.
-pub fn find_racing_pairs(alloc: Global, acts: &[EventAccess]) -> Result<Vec<RacingPair>, Memory>
+pub fn find_racing_pairs(
+    alloc: Global,
+    acts: &[EventAccess],
+) -> Result<Vec<RacingPair>, OutOfMemoryError>
     requires few { length acts.now < 2 ^ 32 }
     ensures exact { IfOk result (λ list. (near : RacingPair) → Contains list.items near ↔ IsRacingLook acts.now near) }
 {

@@ -4,9 +4,9 @@ use Rattle.std.proofs.Common.{◌≡◌, ℕ, zero, suc, ◌+◌, ◌*◌, ◌-�
 use Rattle.std.proofs.lemmas.Bool.Decides.{nat_tests}
 use Rattle.ga_ports.specs.declared.side.Side.{Side}
 use Rattle.ga_ports.specs.declared.side.Side.TheVariants.{Right, Down, Left, Up}
-use Rattle.ga_grid.specs.Grid.{neighbour_of}
+use Rattle.ga_grid.specs.Grid.{neighbour_number}
 use Rattle.ga_rollback.specs.declared.links.TheConstants.{BESIDE}
-use Rattle.ga_rollback.specs.inner.{is_number, is_link, place_of}
+use Rattle.ga_rollback.specs.inner.{equals_node_number, is_table_link, table_place_of_side}
 
 both : (a b : Bool) → (a && b) ≡ true → (a ≡ true) × (b ≡ true)
 both true b e = (refl, e)
@@ -19,7 +19,7 @@ below : (m n : ℕ) → nat_lt m n ≡ true → m < n
 below m n e = grind (arith, nat_tests)
 
 abbrev link_is : ℕ → Side → Bool
-link_is n side = is_link n side (get_or BESIDE (4 * n + place_of side) 0) (neighbour_of n side)
+link_is n side = is_table_link n side (get_or BESIDE (4 * n + table_place_of_side side) 0) (neighbour_number n side)
 
 abbrev row_is : ℕ → Bool
 row_is n = (link_is n Right && link_is n Down) && (link_is n Left && link_is n Up)
@@ -49,22 +49,22 @@ link_of n side under = go side
     go Left = (both (link_is n Left) (link_is n Up) halves.1).0
     go Up = (both (link_is n Left) (link_is n Up) halves.1).1
 
-number_is : (n : ℕ) (o : Option ℕ) → is_number n o ≡ true → o ≡ Some n
+number_is : (n : ℕ) (o : Option ℕ) → equals_node_number n o ≡ true → o ≡ Some n
 number_is n None e = cc
 number_is n (Some k) e = ap Some (same k n e)
 
 -- where there is a node
-pub some_beside : (n number : ℕ) (side : Side) (o : Option ℕ) → is_link n side number o ≡ true → number < 144 → (Some number ≡ o) × (neighbour_of number side ≡ Some n)
+pub some_beside : (n number : ℕ) (side : Side) (o : Option ℕ) → is_table_link n side number o ≡ true → number < 144 → (Some number ≡ o) × (neighbour_number number side ≡ Some n)
 some_beside n number side None e under = let h = same number 144 e in absurd (omega (arith, h, under))
 some_beside n number side (Some k) e under =
-    let (is, rest) = both (number == k) (nat_lt number 144 && is_number n (neighbour_of number side)) e in
-    let (within, back) = both (nat_lt number 144) (is_number n (neighbour_of number side)) rest in
-    (ap Some (same number k is), number_is n (neighbour_of number side) back)
+    let (is, rest) = both (number == k) (nat_lt number 144 && equals_node_number n (neighbour_number number side)) e in
+    let (within, back) = both (nat_lt number 144) (equals_node_number n (neighbour_number number side)) rest in
+    (ap Some (same number k is), number_is n (neighbour_number number side) back)
 
 -- and where there is none
-pub none_beside : (n number : ℕ) (side : Side) (o : Option ℕ) → is_link n side number o ≡ true → 144 ≤ number → None ≡ o
+pub none_beside : (n number : ℕ) (side : Side) (o : Option ℕ) → is_table_link n side number o ≡ true → 144 ≤ number → None ≡ o
 none_beside n number side None e overlay_nodes = refl
 none_beside n number side (Some k) e overlay_nodes =
-    let (is, rest) = both (number == k) (nat_lt number 144 && is_number n (neighbour_of number side)) e in
-    let (within, back) = both (nat_lt number 144) (is_number n (neighbour_of number side)) rest in
+    let (is, rest) = both (number == k) (nat_lt number 144 && equals_node_number n (neighbour_number number side)) e in
+    let (within, back) = both (nat_lt number 144) (equals_node_number n (neighbour_number number side)) rest in
     let h = below number 144 within in absurd (omega (arith, h, overlay_nodes))

@@ -5,11 +5,11 @@ ghost use Rattle.std.specs.List.{sum_by};
 ghost use Rattle.ga_event.specs.Told.{count_steps};
 ghost use Rattle.ga_journal.specs.Histories.{history};
 ghost use Rattle.ga_journal.specs.Events.{journal_events};
-ghost use Rattle.ga_journal.specs.Logs.{AreConsistentHistories};
-ghost use Rattle.ga_journal.specs.Marks.{HasValidMarks, IsOutsideRollback, mark_of, entries_to_remove, counts_event_at, with_raised_mark, entries};
+ghost use Rattle.ga_journal.specs.Logs.{AreHistoriesOfSomeLog};
+ghost use Rattle.ga_journal.specs.Marks.{HasValidMarks, HasNoRollbackUnderWay, mark_of_node, entries_to_remove, entry_counts_event_at, journal_with_raised_mark, count_entries};
 ghost use Rattle.ga_journal.specs.inner.Marks.{to_go};
 ghost use Rattle.ga_rollback.specs.Rewound.{IsRollbackForecast};
-ghost use Rattle.ga_rollback.specs.inner.{counted_of, one_counted, IsRaising};
+ghost use Rattle.ga_rollback.specs.inner.{count_events_of_histories, count_events_of_entry, AreSomeMarksRaised};
 
 use crate::rollback::{RollbackFault, mark};
 use crate::visited::VisitedEntries;
@@ -35,9 +35,9 @@ pub fn forecast_rollback(
     node: NodeId,
     step: u32,
 ) -> Result<RollbackForecast, RollbackFault>
-    requires rest { IsOutsideRollback journal.old }
-    requires whole { AreConsistentHistories journal.old.histories journal.old.made }
-    requires fits { journal.old.ticks.count + 40 * entries journal.old + 8 < 2 ^ 64 }
+    requires rest { HasNoRollbackUnderWay journal.old }
+    requires whole { AreHistoriesOfSomeLog journal.old.histories journal.old.made }
+    requires fits { journal.old.ticks.count + 40 * count_entries journal.old + 8 < 2 ^ 64 }
     ensures ok { IfOk result (λ going. IsRollbackForecast journal.old node.number step going.events going.steps) }
     ensures same { journal.new ≡ record journal.old { ticks = journal.new.ticks } }
     ensures tick_counted { IfOk result (λ going.
@@ -48,7 +48,7 @@ pub fn forecast_rollback(
         ↔ ((step ≡ 0) ⊎ (count_steps node.number (journal_events journal.old) < step)) }
     ensures journal { OnErr result (journal.new ≡ journal.old) }
 {
-    let steps = journal.mark_of(node);
+    let steps = journal.mark_of_node(node);
     if step == 0 || steps < step {
         return Err(RollbackFault::NoStep);
     }
@@ -68,9 +68,9 @@ pub fn forecast_rollback(
 fn release(journal: &mut Journal, going: &VisitedEntries) -> u32
     requires going { (m : ℕ) → slice_index going.now m ≡ entries_to_remove journal.old m }
     requires sound { HasValidMarks journal.old }
-    requires few { counted_of journal.old.histories < 2 ^ 32 }
+    requires few { count_events_of_histories journal.old.histories < 2 ^ 32 }
     requires fits { journal.old.ticks.count + to_go journal.old < 2 ^ 64 }
-    ensures done { IsRaising journal.old journal.new result }
+    ensures done { AreSomeMarksRaised journal.old journal.new result }
     ensures none { (m : ℕ) → entries_to_remove journal.new m ≡ 0 }
 {
     let mut events = 0;
@@ -85,14 +85,14 @@ fn release(journal: &mut Journal, going: &VisitedEntries) -> u32
 
 /// Raises a node's mark by one entry, and counts the event of that entry where it is counted by it.
 fn let_stay(journal: &mut Journal, node: NodeId, events: u32) -> u32
-    requires going { mark_of journal.old node.number < length (history journal.old.histories node.number) }
-    requires few { events + one_counted (counts_event_at journal.old.histories node.number (mark_of journal.old node.number)) < 2 ^ 32 }
+    requires going { mark_of_node journal.old node.number < length (history journal.old.histories node.number) }
+    requires few { events + count_events_of_entry (entry_counts_event_at journal.old.histories node.number (mark_of_node journal.old node.number)) < 2 ^ 32 }
     requires fits { journal.old.ticks.count + 1 < 2 ^ 64 }
     ensures counted { result
-        ≡ events + one_counted (counts_event_at journal.old.histories node.number (mark_of journal.old node.number)) }
-    ensures with_raised_mark { journal.new ≡ with_raised_mark journal.old node.number }
+        ≡ events + count_events_of_entry (entry_counts_event_at journal.old.histories node.number (mark_of_node journal.old node.number)) }
+    ensures journal_with_raised_mark { journal.new ≡ journal_with_raised_mark journal.old node.number }
 {
-    if journal.raise(node) {
+    if journal.raise_mark(node) {
         events + 1
     } else {
         events

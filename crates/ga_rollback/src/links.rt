@@ -1,8 +1,8 @@
 //! Links between neighbours, by a table.
 
 ghost use Rattle.std.specs.Prelude.{◌≡◌, ◌<◌, true, Some, IfSome};
-ghost use Rattle.ga_grid.specs.Grid.{neighbour_of, optional_node_number};
-ghost use Rattle.ga_rollback.specs.inner.{is_link, place_of};
+ghost use Rattle.ga_grid.specs.Grid.{neighbour_number, optional_node_number};
+ghost use Rattle.ga_rollback.specs.inner.{is_table_link, table_place_of_side};
 
 use ga_grid::NodeId;
 use ga_ports::Side;
@@ -40,8 +40,8 @@ static BESIDE: [u8; 576] = [
 
 /// The place of the neighbour on this side among the four of a node in the table.
 #[inline(always)]
-fn place_of(side: Side) -> usize
-    ensures value { result ≡ place_of side }
+fn table_place_of_side(side: Side) -> usize
+    ensures value { result ≡ table_place_of_side side }
     ensures within { result < 4 }
 {
     match side {
@@ -56,10 +56,10 @@ fn place_of(side: Side) -> usize
 #[tactic(auto, using(crate::proofs::Linked::link_of))]
 #[inline(always)]
 fn number_beside(node: NodeId, side: Side) -> u8
-    ensures { is_link node.number side result (neighbour_of node.number side) ≡ true }
+    ensures { is_table_link node.number side result (neighbour_number node.number side) ≡ true }
 {
     let at = 4 * node.index();
-    let place = place_of(side);
+    let place = table_place_of_side(side);
     BESIDE[at + place]
 }
 
@@ -67,8 +67,8 @@ fn number_beside(node: NodeId, side: Side) -> u8
 #[tactic(auto, using(crate::proofs::Linked::some_beside, crate::proofs::Linked::none_beside))]
 #[inline(always)]
 pub(crate) fn node_beside(node: NodeId, side: Side) -> Option<NodeId>
-    ensures value { optional_node_number result ≡ neighbour_of node.number side }
-    ensures back { IfSome result (λ other. neighbour_of other.number side ≡ Some node.number) }
+    ensures value { optional_node_number result ≡ neighbour_number node.number side }
+    ensures back { IfSome result (λ other. neighbour_number other.number side ≡ Some node.number) }
 {
     let number = number_beside(node, side);
     if number < 144 {

@@ -15,13 +15,13 @@ pub struct VisitedEntries {
 
 impl Model for VisitedEntries {
     ghost use Rattle.std.specs.Prelude.{ℕ, List};
-    ghost use Rattle.ga_rollback.specs.inner.{IsWindow};
+    ghost use Rattle.ga_rollback.specs.inner.{AreNonzeroCountsInWindow};
 
     ghost Value = { List ℕ };
 
     ghost view = { λ s. s.counts };
 
-    ghost invariant = { λ s. IsWindow s.counts s.first s.past };
+    ghost invariant = { λ s. AreNonzeroCountsInWindow s.counts s.first s.past };
 }
 
 impl VisitedEntries {

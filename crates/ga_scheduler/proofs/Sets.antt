@@ -6,7 +6,7 @@ use Rattle.std.proofs.lemmas.Bool.{cases_lt, cases_eq, cases_Bool}
 use Rattle.std.proofs.lemmas.Nat.{and_le_l}
 use Rattle.std.proofs.lemmas.Nat.Bits.{bit_at_and, bit_at-lt, bit_at-zero, bit_at_mask_inside, bit_at_mask_below, ones_shl, bit_at-trailing_zeros}
 use Rattle.ga_scheduler.specs.declared.numbers.NumberSet.{NumberSet}
-use Rattle.ga_scheduler.specs.inner.{has}
+use Rattle.ga_scheduler.specs.inner.{is_number_in_set}
 
 -- ---- the lowest 1 of a word from a place on
 
@@ -71,39 +71,39 @@ one_is a e = eq-eqb a 1 e
 zero_is : (a : ℕ) → a ≡ 0 → (a == 1) ≡ false
 zero_is a e = ap (λ z. z == 1) e
 
-pub has_bit : (numbers : NumberSet) (n : ℕ) → bit_at (get_or numbers.words (n / 64) 0) (n % 64) ≡ 1 → has numbers n ≡ true
-unfolding has
+pub has_bit : (numbers : NumberSet) (n : ℕ) → bit_at (get_or numbers.words (n / 64) 0) (n % 64) ≡ 1 → is_number_in_set numbers n ≡ true
+unfolding is_number_in_set
 has_bit numbers n h = one_is _ h
 
-pub has_no_bit : (numbers : NumberSet) (n : ℕ) → bit_at (get_or numbers.words (n / 64) 0) (n % 64) ≡ 0 → has numbers n ≡ false
-unfolding has
+pub has_no_bit : (numbers : NumberSet) (n : ℕ) → bit_at (get_or numbers.words (n / 64) 0) (n % 64) ≡ 0 → is_number_in_set numbers n ≡ false
+unfolding is_number_in_set
 has_no_bit numbers n h = zero_is _ h
 
 -- a number by its word and its place
 pub split : (n word place : ℕ) → n ≡ 64 * word + place → place < 64 → (n / 64 ≡ word) × (n % 64 ≡ place)
 split n word place e l = (omega arith, omega arith)
 
-pub is_in : (numbers : NumberSet) (n word place : ℕ) → n ≡ 64 * word + place → place < 64 → bit_at (get_or numbers.words word 0) place ≡ 1 → has numbers n ≡ true
+pub is_in : (numbers : NumberSet) (n word place : ℕ) → n ≡ 64 * word + place → place < 64 → bit_at (get_or numbers.words word 0) place ≡ 1 → is_number_in_set numbers n ≡ true
 is_in numbers n word place e l h =
     let s = split n word place e l in
     has_bit numbers n (ap (λ z. bit_at (get_or numbers.words z 0) (n % 64)) s.0 ∙ ap (bit_at (get_or numbers.words word 0)) s.1 ∙ h)
 
-pub is_out : (numbers : NumberSet) (n word place : ℕ) → n ≡ 64 * word + place → place < 64 → bit_at (get_or numbers.words word 0) place ≡ 0 → has numbers n ≡ false
+pub is_out : (numbers : NumberSet) (n word place : ℕ) → n ≡ 64 * word + place → place < 64 → bit_at (get_or numbers.words word 0) place ≡ 0 → is_number_in_set numbers n ≡ false
 is_out numbers n word place e l h =
     let s = split n word place e l in
     has_no_bit numbers n (ap (λ z. bit_at (get_or numbers.words z 0) (n % 64)) s.0 ∙ ap (bit_at (get_or numbers.words word 0)) s.1 ∙ h)
 
 -- another word at a number's place
 pub put_same : (old new : NumberSet) (n word : ℕ) (is : Bool) → length old.words ≡ 3 → n < 192 → new.words ≡ set old.words (n / 64) word
-    → (is ≡ true → bit_at word (n % 64) ≡ 1) → (is ≡ false → bit_at word (n % 64) ≡ 0) → has new n ≡ is
+    → (is ≡ true → bit_at word (n % 64) ≡ 1) → (is ≡ false → bit_at word (n % 64) ≡ 0) → is_number_in_set new n ≡ is
 put_same old new n word is size l e one zero =
     let w : get_or new.words (n / 64) 0 ≡ word = ap (λ z. get_or z (n / 64) 0) e ∙ get_or-set_same old.words (n / 64) word 0 (omega arith) in
     let b : bit_at (get_or new.words (n / 64) 0) (n % 64) ≡ bit_at word (n % 64) = ap (λ z. bit_at z (n % 64)) w in
     ⊎_elim (λ t. has_bit new n (b ∙ one t) ∙ sym t) (λ f. has_no_bit new n (b ∙ zero f) ∙ sym f) (cases_Bool is)
 
 pub put_other : (old new : NumberSet) (n m word : ℕ) → length old.words ≡ 3 → n < 192 → m ≢ n → new.words ≡ set old.words (n / 64) word
-    → ((i : ℕ) → i < 64 → i ≢ n % 64 → bit_at word i ≡ bit_at (get_or old.words (n / 64) 0) i) → has new m ≡ has old m
-unfolding has
+    → ((i : ℕ) → i < 64 → i ≢ n % 64 → bit_at word i ≡ bit_at (get_or old.words (n / 64) 0) i) → is_number_in_set new m ≡ is_number_in_set old m
+unfolding is_number_in_set
 put_other old new n m word size l ne e others =
     ap (λ z. bit_at z (m % 64) == 1) (ap (λ z. get_or z (m / 64) 0) e)
     ∙ ⊎_elim
@@ -117,9 +117,9 @@ put_other old new n m word size l ne e others =
 
 -- up to a place of a word
 pub none_until : (numbers : NumberSet) (first index from place : ℕ) → place ≤ 64
-    → ((m : ℕ) → first ≤ m → m < 64 * index + from → has numbers m ≡ false)
+    → ((m : ℕ) → first ≤ m → m < 64 * index + from → is_number_in_set numbers m ≡ false)
     → ((i : ℕ) → from ≤ i → i < place → bit_at (get_or numbers.words index 0) i ≡ 0)
-    → (m : ℕ) → first ≤ m → m < 64 * index + place → has numbers m ≡ false
+    → (m : ℕ) → first ≤ m → m < 64 * index + place → is_number_in_set numbers m ≡ false
 none_until numbers first index from place p before none m l h = elim (cases_lt m (64 * index + from)) [
   | inl less ↦ before m l less
   | inr more ↦ is_out numbers m index (m - 64 * index) (omega arith) (omega arith) (none (m - 64 * index) (omega arith) (omega arith))

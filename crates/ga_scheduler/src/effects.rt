@@ -3,7 +3,7 @@
 ghost use Rattle.std.specs.Prelude.{◌≡◌, ◌⊎◌, ◌↔◌, ◌+◌, ◌≤◌, ℕ, false, ◌++◌, slice_index, Ok, Err, IsOk, IfOk, OnOk, IfErr};
 ghost use Rattle.ga_event.specs.Told.{count_steps};
 ghost use Rattle.ga_lab.specs.Machine.{rewind_answer, has_step};
-ghost use Rattle.ga_scheduler.specs.Effects.{kept_steps, rollback_effect_on, rollback_effects_below, rollback_effects};
+ghost use Rattle.ga_scheduler.specs.Effects.{step_count_in_history, rollback_effect_on_node, rollback_effects_below_node, rollback_effects};
 
 use ga_grid::NodeId;
 use ga_lab::{Lab, LabFault};
@@ -23,7 +23,7 @@ pub struct RollbackEffect {
 
 /// What a rollback would take.
 #[derive(Debug, Drop)]
-pub struct Effects {
+pub struct RollbackEffects {
     /// How many events would go, which `rewind` would answer.
     pub events: u32,
     /// The nodes of which steps would go, in the order of their numbers.
@@ -39,7 +39,7 @@ fn add_steps(
 ) -> Result<(), LabFault>
     requires { steps ≤ count_steps node.number lab.now.kept }
     ensures ok { OnOk result ((left : ℕ → ℕ) → steps + left node.number ≡ count_steps node.number lab.now.kept →
-        list.new.items ≡ list.old.items ++ rollback_effect_on left (kept_steps lab.now) node.number) }
+        list.new.items ≡ list.old.items ++ rollback_effect_on_node left (step_count_in_history lab.now) node.number) }
     ensures err { IfErr result (λ why. why ≡ LabFault.Memory) }
 {
     if steps == 0 {
@@ -57,7 +57,7 @@ fn listed(alloc: Global, lab: &Lab, steps: &VisitedEntries) -> Result<Vec<Rollba
     requires { (m : ℕ) → slice_index steps.now m ≤ count_steps m lab.now.kept }
     ensures ok { IfOk result (λ list. (left : ℕ → ℕ) →
         ((m : ℕ) → slice_index steps.now m + left m ≡ count_steps m lab.now.kept) →
-        list.items ≡ rollback_effects_below left (kept_steps lab.now) 144) }
+        list.items ≡ rollback_effects_below_node left (step_count_in_history lab.now) 144) }
     ensures err { IfErr result (λ why. why ≡ LabFault.Memory) }
 {
     let mut list = Vec::new(alloc);
@@ -78,7 +78,7 @@ pub fn find_rollback_effects(
     lab: &mut Lab,
     node: NodeId,
     step: u32,
-) -> Result<Effects, LabFault>
+) -> Result<RollbackEffects, LabFault>
     ensures events { IfOk result (λ effects. rewind_answer lab.old node.number step ≡ Ok effects.events) }
     ensures nodes { IfOk result (λ effects. effects.nodes.items ≡ rollback_effects lab.old node.number step) }
     ensures err { IfErr result (λ why. (rewind_answer lab.old node.number step ≡ Err why)
@@ -88,7 +88,7 @@ pub fn find_rollback_effects(
 {
     match lab.forecast_rollback(node, step) {
         Ok(going) => match listed(alloc, lab, &going.steps) {
-            Ok(nodes) => Ok(Effects {
+            Ok(nodes) => Ok(RollbackEffects {
                 events: going.events,
                 nodes,
             }),

@@ -20,18 +20,18 @@ mod watching;
 mod words;
 
 pub use condition::Condition;
-pub use effects::{Effects, RollbackEffect, find_rollback_effects};
+pub use effects::{RollbackEffect, RollbackEffects, find_rollback_effects};
 pub use event_tests::{
-    addresses_cell, fetches_at_address, is_matching_pass, is_step_of_node, is_stop_event,
-    is_stop_event_of, is_wait_event_of, stores_in_cell,
+    is_about_to_fetch_at, is_address_of_ram_cell, is_node_stop_event, is_node_wait_event,
+    is_step_of_node, is_stop_event, passes_matching_word, stores_in_cell,
 };
 pub use idle::find_idle_nodes;
-pub use reverse_search::{back_until, find_newest_matching_event};
+pub use reverse_search::{find_newest_matching_event, undo_until_condition};
 pub use running::{RunEnd, RunResult, run_schedule};
-pub use schedule::{Order, Schedule};
+pub use schedule::{Schedule, ScheduleOrder};
 pub use value_test::{Comparison, NodeValue, ValueTest};
 pub use watch::StopCondition;
-pub use watched::{WatchedRun, WatchedRunEnd, has_stored_in_cell, run_watched};
-pub use watching::{MAX_CONDITIONS, active_conditions};
+pub use watched::{WatchedRun, WatchedRunEnd, has_newest_event_stored_in_cell, run_watched};
+pub use watching::{MAX_CONDITIONS, conditions_before_never};
 pub use words::telling::count_transfers;
 pub use words::{Transfer, TransferIter};

@@ -41,21 +41,21 @@ fn with_bit(word: u64, place: u32, is_one: bool) -> u64
 
 impl NumberSet {
     ghost use Rattle.std.specs.Prelude.{◌≡◌, ◌≢◌, ◌<◌, ◌≤◌, ℕ, true, false, IfSome, IfNone};
-    ghost use Rattle.ga_scheduler.specs.inner.{has};
+    ghost use Rattle.ga_scheduler.specs.inner.{is_number_in_set};
 
     /// The set of nothing.
     #[tactic(auto, using(crate::proofs::Sets::has_no_bit))]
     pub fn none() -> Self
-        ensures { (n : ℕ) → n < 192 → has result n ≡ false }
+        ensures { (n : ℕ) → n < 192 → is_number_in_set result n ≡ false }
     {
         NumberSet { words: [0; 3] }
     }
 
     /// Puts a number in, or takes it out.
-    pub fn put(&mut self, number: u8, is_in: bool)
+    pub fn set_number_membership(&mut self, number: u8, is_in: bool)
         requires { number < 192 }
-        ensures same { has self.new number ≡ is_in }
-        ensures others { (n : ℕ) → n < 192 → n ≢ number → has self.new n ≡ has self.old n }
+        ensures same { is_number_in_set self.new number ≡ is_in }
+        ensures others { (n : ℕ) → n < 192 → n ≢ number → is_number_in_set self.new n ≡ is_number_in_set self.old n }
     {
         let index = (number / 64) as usize;
         let place = u32::from(number % 64);
@@ -63,23 +63,23 @@ impl NumberSet {
     }
 
     /// Whether a number is in the set.
-    #[tactic(auto, unfolding(crate::specs::inner::has))]
-    pub fn has(&self, number: u8) -> bool
+    #[tactic(auto, unfolding(crate::specs::inner::is_number_in_set))]
+    pub fn is_number_in_set(&self, number: u8) -> bool
         requires { number < 192 }
-        ensures { result ≡ has self.now number }
+        ensures { result ≡ is_number_in_set self.now number }
     {
         let word = self.words[(number / 64) as usize];
         (word >> (number % 64)) % 2 == 1
     }
 
     /// The lowest number in the set from this one on.
-    pub fn lowest_from(&self, first: u8) -> Option<u8>
+    pub fn lowest_number_from(&self, first: u8) -> Option<u8>
         requires { first < 192 }
         ensures least { IfSome result (λ n. first ≤ n) }
         ensures in_range { IfSome result (λ n. n < 192) }
-        ensures is_in { IfSome result (λ n. has self.now n ≡ true) }
-        ensures before { IfSome result (λ n. (m : ℕ) → first ≤ m → m < n → has self.now m ≡ false) }
-        ensures none { IfNone result ((m : ℕ) → first ≤ m → m < 192 → has self.now m ≡ false) }
+        ensures is_in { IfSome result (λ n. is_number_in_set self.now n ≡ true) }
+        ensures before { IfSome result (λ n. (m : ℕ) → first ≤ m → m < n → is_number_in_set self.now m ≡ false) }
+        ensures none { IfNone result ((m : ℕ) → first ≤ m → m < 192 → is_number_in_set self.now m ≡ false) }
     {
         let start = first / 64;
         let mut from = u32::from(first % 64);

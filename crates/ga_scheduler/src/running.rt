@@ -2,11 +2,11 @@
 
 ghost use Rattle.std.specs.Prelude.{◌≡◌, ◌≤◌, ◌+◌, ℕ, length, Ok, Err, IfOk, IfErr, IfSome, IsSome, IsOk, OnOk, OnErr, Some, None, ◌⊎◌, ◌<◌, ◌^◌};
 ghost use Rattle.ga_event.specs.Apply.{replay};
-ghost use Rattle.ga_lab.specs.Machine.{chip_of, step_answer, state_after_step};
-ghost use Rattle.ga_scheduler.specs.Words.{transfer_count_of_event, link_transfer_count};
-ghost use Rattle.ga_scheduler.specs.inner.{HoldsReady, IsKnown, is_random, AreCounted, newest_told, IsNeeded, IsOver, events_at};
-ghost use Rattle.ga_scheduler.specs.Schedules.{schedule_after};
-ghost use Rattle.ga_scheduler.specs.Running.{running, next_run_event, run_after_next, condition_held_after_next_event, run_after_events, HasNextEvents, IsStepRefusedFor, HasRunEnded};
+ghost use Rattle.ga_lab.specs.Machine.{chip_of_machine, step_answer, state_after_step};
+ghost use Rattle.ga_scheduler.specs.Words.{transfers_over_link_by_event, link_transfer_count};
+ghost use Rattle.ga_scheduler.specs.inner.{HoldsExactlyReadyNodes, IsReadySetKnowledgeTrue, is_random_order, AreLinkCountsKnown, newest_event_report, NeedsCoverConditions, IsRunEndByNextEventAtLatest, event_count_at_end};
+ghost use Rattle.ga_scheduler.specs.Schedules.{schedule_after_event};
+ghost use Rattle.ga_scheduler.specs.Running.{scheduled_machine, next_run_event, run_after_next_event, condition_held_after_next_event, run_after_events, CanMakeNextEvents, IsStepRefusedFor, HasRunEnded};
 
 use crate::condition::Condition;
 use crate::drawing::Known;
@@ -15,19 +15,19 @@ use crate::ready::{next_from, ready_nodes, refresh};
 use crate::schedule::Schedule;
 use crate::watching::{LinkCounts, Needs, count_all, first_holding_condition, needs_of};
 use ga_grid::NodeId;
-use ga_lab::{Lab, LabFault, Made};
+use ga_lab::{Lab, LabFault, MadeEvent};
 
 /// Why no more events were made.
 #[derive(Clone, Copy, PartialEq, Eq, Debug)]
 pub enum RunEnd {
     /// A condition holds right after this event, and none held after one before. Of those that hold it is the first, at this place
     /// of their list.
-    Reached { made: Made, which: u8 },
+    ConditionHeld { made: MadeEvent, which: u8 },
     /// As many events were made as were asked for.
-    Made,
+    MadeRequestedEvents,
     /// No node of the chip has an event.
     Quiet,
-    /// [`Lab::step`] refused the next event: `Full`, `Spent` or `Memory`.
+    /// [`Lab::step`] refused the next event: `Full`, `EventNumbersSpent` or `Memory`.
     Refused(LabFault),
 }
 
@@ -44,7 +44,7 @@ pub struct RunResult {
 
 // A node's next event: by a step inlined here, or by a call of it.
 #[inline(always)]
-fn step_once(lab: &mut Lab, node: NodeId, is_here: bool) -> Result<Made, LabFault>
+fn step_once(lab: &mut Lab, node: NodeId, is_here: bool) -> Result<MadeEvent, LabFault>
     ensures answer { (result ≡ step_answer lab.old node) ⊎ ((result ≡ Err LabFault.Memory) × IsOk (step_answer lab.old node)) }
     ensures ok { OnOk result (lab.new ≡ state_after_step lab.old node) }
     ensures err { OnErr result (lab.new ≡ lab.old) }
@@ -66,28 +66,28 @@ pub(crate) fn make(
     node: NodeId,
     is_here: bool,
     draws: bool,
-) -> Result<Made, LabFault>
-    requires ready { HoldsReady (chip_of lab.old) ready.old }
-    requires known { IsKnown ready.old known.old }
+) -> Result<MadeEvent, LabFault>
+    requires ready { HoldsExactlyReadyNodes (chip_of_machine lab.old) ready.old }
+    requires known { IsReadySetKnowledgeTrue ready.old known.old }
     requires replays { IsSome (replay lab.old.load lab.old.kept) }
-    requires draws { draws ≡ is_random schedule.old.order }
+    requires draws { draws ≡ is_random_order schedule.old.order }
     ensures ok { IfOk result (λ made. step_answer lab.old node ≡ Ok made) }
     ensures state { OnOk result (lab.new ≡ state_after_step lab.old node) }
-    ensures schedule { OnOk result (schedule.new ≡ schedule_after schedule.old node) }
-    ensures ready { OnOk result (HoldsReady (chip_of lab.new) ready.new) }
-    ensures known { OnOk result (IsKnown ready.new known.new) }
+    ensures schedule { OnOk result (schedule.new ≡ schedule_after_event schedule.old node) }
+    ensures ready { OnOk result (HoldsExactlyReadyNodes (chip_of_machine lab.new) ready.new) }
+    ensures known { OnOk result (IsReadySetKnowledgeTrue ready.new known.new) }
     ensures words { IfOk result (λ made. (writer reader : ℕ) →
-        link_transfer_count lab.new writer reader ≡ link_transfer_count lab.old writer reader + transfer_count_of_event writer reader made) }
-    ensures newest { IfOk result (λ made. newest_told lab.new ≡ Some made) }
+        link_transfer_count lab.new writer reader ≡ link_transfer_count lab.old writer reader + transfers_over_link_by_event writer reader made) }
+    ensures newest { IfOk result (λ made. newest_event_report lab.new ≡ Some made) }
     ensures replays { OnOk result (IsSome (replay lab.new.load lab.new.kept)) }
-    ensures draws { draws ≡ is_random schedule.new.order }
+    ensures draws { draws ≡ is_random_order schedule.new.order }
     ensures refused { IfErr result (λ why. IsStepRefusedFor why (step_answer lab.old node)) }
     ensures same { OnErr result (lab.new ≡ lab.old) }
     ensures stays { OnErr result (schedule.new ≡ schedule.old) }
 {
     match step_once(lab, node, is_here) {
         Ok(made) => {
-            *schedule = schedule.schedule_after(node, draws);
+            *schedule = schedule.schedule_after_event(node, draws);
             refresh(ready, known, lab.chip(), &made);
             Ok(made)
         }
@@ -113,34 +113,34 @@ fn advance(
     end: &mut RunEnd,
     draws: bool,
 ) -> Result<(), Over>
-    requires ready { HoldsReady (chip_of lab.old) ready.old }
-    requires known { IsKnown ready.old known.old }
+    requires ready { HoldsExactlyReadyNodes (chip_of_machine lab.old) ready.old }
+    requires known { IsReadySetKnowledgeTrue ready.old known.old }
     requires replays { IsSome (replay lab.old.load lab.old.kept) }
-    requires draws { draws ≡ is_random schedule.old.order }
-    requires needed { IsNeeded needs.now until.now }
+    requires draws { draws ≡ is_random_order schedule.old.order }
+    requires needed { NeedsCoverConditions needs.now until.now }
     requires most { length until.now ≤ 8 }
     requires size { length words.old ≡ 8 }
-    requires counted { AreCounted until.now lab.old words.old }
-    ensures made { OnOk result (IsSome (next_run_event (running lab.old schedule.old))) }
-    ensures unmet { OnOk result (condition_held_after_next_event until.now (running lab.old schedule.old) ≡ None) }
-    ensures moved { OnOk result (running lab.new schedule.new ≡ run_after_next (running lab.old schedule.old)) }
-    ensures ready { OnOk result (HoldsReady (chip_of lab.new) ready.new) }
-    ensures known { OnOk result (IsKnown ready.new known.new) }
+    requires counted { AreLinkCountsKnown until.now lab.old words.old }
+    ensures made { OnOk result (IsSome (next_run_event (scheduled_machine lab.old schedule.old))) }
+    ensures unmet { OnOk result (condition_held_after_next_event until.now (scheduled_machine lab.old schedule.old) ≡ None) }
+    ensures moved { OnOk result (scheduled_machine lab.new schedule.new ≡ run_after_next_event (scheduled_machine lab.old schedule.old)) }
+    ensures ready { OnOk result (HoldsExactlyReadyNodes (chip_of_machine lab.new) ready.new) }
+    ensures known { OnOk result (IsReadySetKnowledgeTrue ready.new known.new) }
     ensures replays { OnOk result (IsSome (replay lab.new.load lab.new.kept)) }
-    ensures draws { draws ≡ is_random schedule.new.order }
+    ensures draws { draws ≡ is_random_order schedule.new.order }
     ensures size { OnOk result (length words.new ≡ 8) }
-    ensures counted { OnOk result (AreCounted until.now lab.new words.new) }
-    ensures over { OnErr result (IsOver until.now (running lab.old schedule.old) (running lab.new schedule.new) end.new) }
+    ensures counted { OnOk result (AreLinkCountsKnown until.now lab.new words.new) }
+    ensures over { OnErr result (IsRunEndByNextEventAtLatest until.now (scheduled_machine lab.old schedule.old) (scheduled_machine lab.new schedule.new) end.new) }
 {
     match next_from(ready, known, schedule, draws) {
         Some(node) => {
-            if lab.node(node).not_ready().is_none() {
+            if lab.node(node).own_event_refusal().is_none() {
                 match make(lab, ready, known, schedule, node, true, draws) {
                     Ok(made) => {
                         if let Some(which) = first_holding_condition(
                             until, needs, words, &made, lab,
                         ) {
-                            *end = RunEnd::Reached { made, which };
+                            *end = RunEnd::ConditionHeld { made, which };
                             return Err(Over);
                         }
                         Ok(())
@@ -156,7 +156,7 @@ fn advance(
                         if let Some(which) = first_holding_condition(
                             until, needs, words, &made, lab,
                         ) {
-                            *end = RunEnd::Reached { made, which };
+                            *end = RunEnd::ConditionHeld { made, which };
                             return Err(Over);
                         }
                         Ok(())
@@ -176,13 +176,13 @@ fn advance(
 }
 
 // How many events there were at the end of a run: one more than were made before, where it ended right after an event.
-fn events_at(before: u64, end: RunEnd) -> u64
+fn event_count_at_end(before: u64, end: RunEnd) -> u64
     requires { before + 1 < 2 ^ 64 }
-    ensures { result ≡ events_at before end }
+    ensures { result ≡ event_count_at_end before end }
 {
     match end {
-        RunEnd::Reached { .. } => before + 1,
-        RunEnd::Made => before,
+        RunEnd::ConditionHeld { .. } => before + 1,
+        RunEnd::MadeRequestedEvents => before,
         RunEnd::Quiet => before,
         RunEnd::Refused(_) => before,
     }
@@ -198,18 +198,18 @@ pub fn run_schedule(
     until: &[Condition],
 ) -> RunResult
     requires { length until.now ≤ 8 }
-    ensures state { running lab.new result.schedule ≡ run_after_events (running lab.old schedule) result.events }
-    ensures made { HasNextEvents (running lab.old schedule) result.events }
+    ensures state { scheduled_machine lab.new result.schedule ≡ run_after_events (scheduled_machine lab.old schedule) result.events }
+    ensures made { CanMakeNextEvents (scheduled_machine lab.old schedule) result.events }
     ensures most { result.events ≤ most }
-    ensures end { HasRunEnded (running lab.old schedule) most until.now result.events result.end }
+    ensures end { HasRunEnded (scheduled_machine lab.old schedule) most until.now result.events result.end }
 {
     let mut ready = ready_nodes(lab.chip());
-    let mut known = Known::nothing();
+    let mut known = Known::no_known_nodes();
     let draws = schedule.draws();
     let needs = needs_of(until);
     let mut words = count_all(until, lab);
     let mut events = 0;
-    let mut end = RunEnd::Made;
+    let mut end = RunEnd::MadeRequestedEvents;
     while events < most {
         match advance(
             lab,
@@ -224,7 +224,7 @@ pub fn run_schedule(
         ) {
             Ok(()) => events += 1,
             Err(Over) => {
-                let events = events_at(events, end);
+                let events = event_count_at_end(events, end);
                 return RunResult {
                     events,
                     end,
@@ -233,7 +233,7 @@ pub fn run_schedule(
             }
         }
     }
-    let end = RunEnd::Made;
+    let end = RunEnd::MadeRequestedEvents;
     RunResult {
         events,
         end,

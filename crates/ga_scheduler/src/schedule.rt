@@ -11,7 +11,7 @@ use rand_xoshiro::SplitMix64;
 
 /// The next turn after a node that made an event.
 #[derive(Clone, Copy, PartialEq, Eq, Debug)]
-pub enum Order {
+pub enum ScheduleOrder {
     /// In rounds: to the next number, after the last one to the first. So in each round each node that has an event makes one,
     /// in the order of the numbers.
     Rounds,
@@ -28,7 +28,7 @@ pub enum Order {
 #[derive(Clone, Copy, PartialEq, Eq, Debug)]
 pub struct Schedule {
     /// How the next turn is chosen.
-    pub order: Order,
+    pub order: ScheduleOrder,
     /// The node whose turn it is; in the random order none has one.
     pub turn: NodeId,
     /// The state of the generator, SplitMix64 (Steele, Lea and Flood, "Fast splittable pseudorandom number generators", 2014).
@@ -65,37 +65,37 @@ fn following(node: NodeId) -> NodeId
 impl Schedule {
     ghost use Rattle.std.specs.Prelude.{◌≡◌};
     ghost use Rattle.rand_xoshiro.specs.SplitMix64.{mix_u64};
-    ghost use Rattle.ga_scheduler.specs.Schedules.{round_robin, greedy, random, schedule_after};
-    ghost use Rattle.ga_scheduler.specs.inner.{is_random};
+    ghost use Rattle.ga_scheduler.specs.Schedules.{round_robin_schedule, greedy_schedule, random_schedule, schedule_after_event};
+    ghost use Rattle.ga_scheduler.specs.inner.{is_random_order};
 
     /// Rounds, the first of which begins at node 000.
-    pub fn round_robin() -> Self
-        ensures { result ≡ round_robin }
+    pub fn round_robin_schedule() -> Self
+        ensures { result ≡ round_robin_schedule }
     {
         Schedule {
-            order: Order::Rounds,
+            order: ScheduleOrder::Rounds,
             turn: first_node(),
             generator: 0,
         }
     }
 
     /// Node 000 until it has no event, then the next.
-    pub fn greedy() -> Self
-        ensures { result ≡ greedy }
+    pub fn greedy_schedule() -> Self
+        ensures { result ≡ greedy_schedule }
     {
         Schedule {
-            order: Order::Greedy,
+            order: ScheduleOrder::Greedy,
             turn: first_node(),
             generator: 0,
         }
     }
 
     /// Nodes that are drawn by a generator with this seed, which determines the schedule.
-    pub fn random(seed: u64) -> Self
-        ensures { result ≡ random seed }
+    pub fn random_schedule(seed: u64) -> Self
+        ensures { result ≡ random_schedule seed }
     {
         Schedule {
-            order: Order::Random,
+            order: ScheduleOrder::Random,
             turn: first_node(),
             generator: seed,
         }
@@ -110,20 +110,20 @@ impl Schedule {
 
     // Whether nodes are drawn.
     pub(crate) fn draws(&self) -> bool
-        ensures { result ≡ is_random self.now.order }
+        ensures { result ≡ is_random_order self.now.order }
     {
         match self.order {
-            Order::Rounds => false,
-            Order::Greedy => false,
-            Order::Random => true,
+            ScheduleOrder::Rounds => false,
+            ScheduleOrder::Greedy => false,
+            ScheduleOrder::Random => true,
         }
     }
 
     // The schedule after an event that this node made.
     #[inline(always)]
-    pub(crate) fn schedule_after(self, node: NodeId, draws: bool) -> Self
-        requires { draws ≡ is_random self.order }
-        ensures { result ≡ schedule_after self node }
+    pub(crate) fn schedule_after_event(self, node: NodeId, draws: bool) -> Self
+        requires { draws ≡ is_random_order self.order }
+        ensures { result ≡ schedule_after_event self node }
     {
         if draws {
             return Schedule {
@@ -132,9 +132,9 @@ impl Schedule {
             };
         }
         let turn = match self.order {
-            Order::Rounds => following(node),
-            Order::Greedy => node,
-            Order::Random => node,
+            ScheduleOrder::Rounds => following(node),
+            ScheduleOrder::Greedy => node,
+            ScheduleOrder::Random => node,
         };
         Schedule { turn, ..self }
     }

@@ -2,12 +2,12 @@
 
 ghost use Rattle.std.specs.Prelude.{◌≡◌, ◌≤◌, ◌%◌, Ok, Some, None, IfOk, IfErr, IfSome, IsSome, OnOk, OnErr};
 ghost use Rattle.ga_event.specs.Apply.{replay};
-ghost use Rattle.ga_lab.specs.Machine.{chip_of};
-ghost use Rattle.ga_scheduler.specs.declared.condition.Condition.TheVariants.{Writes};
+ghost use Rattle.ga_lab.specs.Machine.{chip_of_machine};
+ghost use Rattle.ga_scheduler.specs.declared.condition.Condition.TheVariants.{WritesRamCell};
 ghost use Rattle.ga_scheduler.specs.Conditions.{holds_after_made_event};
-ghost use Rattle.ga_scheduler.specs.inner.{HoldsReady, IsKnown, is_random};
-ghost use Rattle.ga_scheduler.specs.Running.{running};
-ghost use Rattle.ga_scheduler.specs.Watched.{IsReportOfNewestEvent, precedence_node, precedence_event, precedence_run_after_next, precedence_run_after, HasNextPrecedenceEvents, run_watch, watch_after, IsPrecedenceRunHalted, IsNewestWatchedEvent, HasWatchedRunEnded};
+ghost use Rattle.ga_scheduler.specs.inner.{HoldsExactlyReadyNodes, IsReadySetKnowledgeTrue, is_random_order};
+ghost use Rattle.ga_scheduler.specs.Running.{scheduled_machine};
+ghost use Rattle.ga_scheduler.specs.Watched.{IsReportOfNewestEvent, next_node_with_precedence, next_event_with_precedence, run_after_event_with_precedence, run_after_events_with_precedence, CanMakeNextPrecedenceEvents, make_run_watch, watch_state_after_events, IsPrecedenceRunEndWithoutNextEvent, IsWatchEndAtNewestEvent, HasWatchedRunEnded};
 
 use crate::drawing::Known;
 use crate::edges::writes;
@@ -17,18 +17,18 @@ use crate::running::make;
 use crate::schedule::Schedule;
 use crate::watch::StopCondition;
 use ga_grid::NodeId;
-use ga_lab::{Lab, LabFault, Made};
+use ga_lab::{Lab, LabFault, MadeEvent};
 
 /// Why no more events were made.
 #[derive(Clone, Copy, PartialEq, Eq, Debug)]
 pub enum WatchedRunEnd {
     /// The watch ended the run after this event, and after none before.
-    Seen(Made),
+    EndedByWatch(MadeEvent),
     /// As many events were made as were asked for.
     Made,
     /// No node of the chip has an event.
     Quiet,
-    /// [`Lab::step`] refused the next event: `Full`, `Spent` or `Memory`.
+    /// [`Lab::step`] refused the next event: `Full`, `EventNumbersSpent` or `Memory`.
     Refused(LabFault),
 }
 
@@ -53,15 +53,15 @@ fn next_first(
     lab: &Lab,
     draws: bool,
 ) -> Option<NodeId>
-    requires ready { HoldsReady (chip_of lab.now) ready.now }
-    requires known { IsKnown ready.now known.old }
-    requires draws { draws ≡ is_random schedule.now.order }
-    ensures chosen { result ≡ precedence_node first (running lab.now schedule.now) }
-    ensures known { IsKnown ready.now known.new }
+    requires ready { HoldsExactlyReadyNodes (chip_of_machine lab.now) ready.now }
+    requires known { IsReadySetKnowledgeTrue ready.now known.old }
+    requires draws { draws ≡ is_random_order schedule.now.order }
+    ensures chosen { result ≡ next_node_with_precedence first (scheduled_machine lab.now schedule.now) }
+    ensures known { IsReadySetKnowledgeTrue ready.now known.new }
 {
     match first {
         Some(node) => {
-            if ready.has(node.number) {
+            if ready.is_number_in_set(node.number) {
                 Some(node)
             } else {
                 next_from(ready, known, schedule, draws)
@@ -80,19 +80,19 @@ fn go(
     first: Option<NodeId>,
     schedule: &mut Schedule,
     draws: bool,
-) -> Result<Made, WatchedRunEnd>
-    requires ready { HoldsReady (chip_of lab.old) ready.old }
-    requires known { IsKnown ready.old known.old }
+) -> Result<MadeEvent, WatchedRunEnd>
+    requires ready { HoldsExactlyReadyNodes (chip_of_machine lab.old) ready.old }
+    requires known { IsReadySetKnowledgeTrue ready.old known.old }
     requires replays { IsSome (replay lab.old.load lab.old.kept) }
-    requires draws { draws ≡ is_random schedule.old.order }
-    ensures told { IfOk result (λ made. precedence_event first (running lab.old schedule.old) ≡ Some made) }
-    ensures moved { OnOk result (running lab.new schedule.new ≡ precedence_run_after_next first (running lab.old schedule.old)) }
-    ensures ready { OnOk result (HoldsReady (chip_of lab.new) ready.new) }
-    ensures known { OnOk result (IsKnown ready.new known.new) }
-    ensures draws { draws ≡ is_random schedule.new.order }
+    requires draws { draws ≡ is_random_order schedule.old.order }
+    ensures told { IfOk result (λ made. next_event_with_precedence first (scheduled_machine lab.old schedule.old) ≡ Some made) }
+    ensures moved { OnOk result (scheduled_machine lab.new schedule.new ≡ run_after_event_with_precedence first (scheduled_machine lab.old schedule.old)) }
+    ensures ready { OnOk result (HoldsExactlyReadyNodes (chip_of_machine lab.new) ready.new) }
+    ensures known { OnOk result (IsReadySetKnowledgeTrue ready.new known.new) }
+    ensures draws { draws ≡ is_random_order schedule.new.order }
     ensures newest { IfOk result (λ made. IsReportOfNewestEvent lab.new made) }
     ensures replays { OnOk result (IsSome (replay lab.new.load lab.new.kept)) }
-    ensures halted { IfErr result (IsPrecedenceRunHalted first (running lab.old schedule.old)) }
+    ensures halted { IfErr result (IsPrecedenceRunEndWithoutNextEvent first (scheduled_machine lab.old schedule.old)) }
     ensures same { OnErr result (lab.new ≡ lab.old) }
     ensures stays { OnErr result (schedule.new ≡ schedule.old) }
 {
@@ -115,23 +115,23 @@ pub fn run_watched<W: StopCondition>(
     most: u64,
     watch: &mut W,
 ) -> WatchedRun
-    ensures state { running lab.new result.schedule ≡ precedence_run_after first (running lab.old schedule) result.events }
-    ensures made { HasNextPrecedenceEvents first (running lab.old schedule) result.events }
-    ensures watch { watch.new ≡ watch_after (run_watch first W.ends W.seen) watch.old (running lab.old schedule) result.events }
+    ensures state { scheduled_machine lab.new result.schedule ≡ run_after_events_with_precedence first (scheduled_machine lab.old schedule) result.events }
+    ensures made { CanMakeNextPrecedenceEvents first (scheduled_machine lab.old schedule) result.events }
+    ensures watch { watch.new ≡ watch_state_after_events (make_run_watch first W.ends W.seen) watch.old (scheduled_machine lab.old schedule) result.events }
     ensures most { result.events ≤ most }
-    ensures newest { IsNewestWatchedEvent lab.new result.end }
-    ensures end { HasWatchedRunEnded (run_watch first W.ends W.seen) watch.old (running lab.old schedule) most result.events result.end }
+    ensures newest { IsWatchEndAtNewestEvent lab.new result.end }
+    ensures end { HasWatchedRunEnded (make_run_watch first W.ends W.seen) watch.old (scheduled_machine lab.old schedule) most result.events result.end }
 {
     let mut ready = ready_nodes(lab.chip());
-    let mut known = Known::nothing();
+    let mut known = Known::no_known_nodes();
     let draws = schedule.draws();
     let mut events = 0;
     while events < most {
         match go(lab, &mut ready, &mut known, first, &mut schedule, draws) {
             Ok(made) => {
                 events += 1;
-                if watch.sees(&made, lab) {
-                    let end = WatchedRunEnd::Seen(made);
+                if watch.ends_run_after_event(&made, lab) {
+                    let end = WatchedRunEnd::EndedByWatch(made);
                     return WatchedRun {
                         events,
                         end,
@@ -157,9 +157,14 @@ pub fn run_watched<W: StopCondition>(
 }
 
 /// Whether the newest event of a lab stored in a cell of RAM of a node, which the low six bits of an address name.
-pub fn has_stored_in_cell(lab: &Lab, made: &Made, node: NodeId, address: u8) -> bool
+pub fn has_newest_event_stored_in_cell(
+    lab: &Lab,
+    made: &MadeEvent,
+    node: NodeId,
+    address: u8,
+) -> bool
     requires { IsReportOfNewestEvent lab.now made.now }
-    ensures { result ≡ holds_after_made_event (Writes node (address % 64) None) made.now lab.now }
+    ensures { result ≡ holds_after_made_event (WritesRamCell node (address % 64) None) made.now lab.now }
 {
     writes(made, lab, node, address % 64, None)
 }

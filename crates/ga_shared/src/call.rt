@@ -1,7 +1,7 @@
 //! Calls, their answers, and the receipts and log entries of them.
 
 use ga_grid::NodeId;
-use ga_lab::Made;
+use ga_lab::MadeEvent;
 use thiserror::Error;
 
 /// A call of a worker.
@@ -17,7 +17,7 @@ pub enum Call {
 #[derive(Clone, Copy, PartialEq, Eq, Debug)]
 pub enum CallAnswer {
     /// The event that the step made.
-    Made(Made),
+    Made(MadeEvent),
     /// The number of removed events.
     Removed(u32),
     /// The lab refused the call, which changed nothing: 1, 2, 3, 6 or 7. It is logged.
@@ -37,7 +37,7 @@ pub struct LogEntry {
 
 /// What a worker keeps of a call that it made.
 #[derive(Clone, Copy, PartialEq, Eq, Debug)]
-pub struct Receipt {
+pub struct CallReceipt {
     /// How many entries the log had before this call's.
     pub place: u64,
     /// The call.
@@ -46,7 +46,7 @@ pub struct Receipt {
     pub answer: CallAnswer,
 }
 
-impl Receipt {
+impl CallReceipt {
     ghost use Rattle.std.specs.Prelude.{◌≡◌, ◌↔◌, IsTrue};
 
     /// What the log keeps of the call, made by this worker.
@@ -61,7 +61,7 @@ impl Receipt {
     }
 
     /// Whether two receipts are the same. The contract of the derived comparison covers their parts only.
-    pub(crate) fn is_equal_to(&self, other: &Receipt) -> bool
+    pub(crate) fn is_equal_to(&self, other: &CallReceipt) -> bool
         ensures { IsTrue result ↔ (self.now ≡ other.now) }
     {
         *self == *other
@@ -70,7 +70,7 @@ impl Receipt {
 
 /// Why a shared chip was not opened, or a call of a worker not made.
 #[derive(Clone, Copy, PartialEq, Eq, Debug, Error)]
-pub enum SharedFault {
+pub enum SharedLabFault {
     /// Out of memory (4). Nothing was logged.
     #[error("out of memory")]
     Memory,

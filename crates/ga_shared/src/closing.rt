@@ -1,21 +1,21 @@
 //! Closing a shared chip.
 
 ghost use Rattle.std.specs.Prelude.{◌≡◌, ◌≢◌, ◌<◌, ◌↔◌, ◌==◌, ℕ, sum_by, count_by, IfSome, IfNone, IsTrue, ◌∷◌, List, vec_len};
-ghost use Rattle.ga_grid.specs.Chip.{records_of};
-ghost use Rattle.ga_shared.specs.Log.{receipts_of_worker, AreAllSeats, HasMatchingReceipts, IsFirstWorkerNotMatching};
-ghost use Rattle.ga_shared.specs.declared.call.Receipt.{Receipt};
+ghost use Rattle.ga_grid.specs.Chip.{records_of_chip};
+ghost use Rattle.ga_shared.specs.Log.{receipts_of_worker, AreAllWorkerSeats, HasMatchingReceipts, IsFirstWorkerNotMatchingLog};
+ghost use Rattle.ga_shared.specs.declared.call.CallReceipt.{CallReceipt};
 
-use crate::call::{LogEntry, Receipt};
+use crate::call::{CallReceipt, LogEntry};
 use crate::copies::is_equal_to;
 use crate::locked::{LockedLab, WorkerSeat};
-use crate::shared::SharedChip;
+use crate::shared::SharedLab;
 use ga_grid::Chip;
 use ga_lab::Lab;
 use std::sync::ledger::{Book, Ledger, Share};
 
 /// The lab and the log of its calls, once no worker shares it any more.
 #[derive(Drop)]
-pub struct ClosedLab {
+pub struct UnsharedLab {
     /// The lab, after all calls of the log.
     pub lab: Lab,
     /// The calls of all workers, in the order in which they had the lock.
@@ -26,35 +26,35 @@ pub struct ClosedLab {
 #[derive(Drop)]
 pub enum CloseFault<L: Ledger> {
     /// The seats are not those of all workers, each once (21). The shared chip and all seats are returned.
-    Missing {
-        shared: SharedChip<L>,
+    SeatsMissing {
+        shared: SharedLab<L>,
         seats: Vec<WorkerSeat<L>>,
     },
     /// Without a worker: the lab was not opened on the chip and the limit given; else the receipts of this worker, and of none
     /// before it, are not the log's (22).
-    Disagree {
+    LogDisagrees {
         worker: Option<u32>,
-        closed: ClosedLab,
+        closed: UnsharedLab,
     },
 }
 
-impl<L: Ledger> SharedChip<L> {
+impl<L: Ledger> SharedLab<L> {
     ghost use Rattle.ga_shared.specs.Close.{IsCloseResult};
 
     /// Closes the shared chip, with the seats of all workers.
     ///
     /// # Errors
-    /// `Missing` where the seats are not those of all workers, each once; then `Disagree`.
-    pub fn close(self, seats: Vec<WorkerSeat<L>>) -> Result<ClosedLab, CloseFault<L>>
+    /// `SeatsMissing` where the seats are not those of all workers, each once; then `LogDisagrees`.
+    pub fn close(self, seats: Vec<WorkerSeat<L>>) -> Result<UnsharedLab, CloseFault<L>>
         ensures { IsCloseResult self seats.items result }
     {
         if !are_seated(seats.as_slice(), self.workers) {
-            return Err(CloseFault::Missing {
+            return Err(CloseFault::SeatsMissing {
                 shared: self,
                 seats,
             });
         }
-        let SharedChip {
+        let SharedLab {
             locked,
             load,
             limit,
@@ -69,16 +69,16 @@ impl<L: Ledger> SharedChip<L> {
         let is_equal_to = is_opened_on(&lab, &copy, &load, limit);
         let wrong = least_wrong(log.as_slice(), seats.as_slice(), workers);
         count_up(&mut book, seats);
-        let closed = ClosedLab { lab, log };
+        let closed = UnsharedLab { lab, log };
         if !is_equal_to {
-            return Err(CloseFault::Disagree {
+            return Err(CloseFault::LogDisagrees {
                 worker: None,
                 closed,
             });
         }
         match wrong {
             None => Ok(closed),
-            Some(worker) => Err(CloseFault::Disagree {
+            Some(worker) => Err(CloseFault::LogDisagrees {
                 worker: Some(worker),
                 closed,
             }),
@@ -88,14 +88,14 @@ impl<L: Ledger> SharedChip<L> {
 
 /// Whether the lab, with this copy of its load, was opened on a chip and a limit.
 fn is_opened_on(lab: &Lab, copy: &Chip, load: &Chip, limit: u32) -> bool
-    ensures { IsTrue result ↔ ((records_of copy.now ≡ records_of load.now) × (lab.now.limit ≡ limit)) }
+    ensures { IsTrue result ↔ ((records_of_chip copy.now ≡ records_of_chip load.now) × (lab.now.limit ≡ limit)) }
 {
     is_equal_to(copy, load) && lab.counts().limit == limit
 }
 
 /// Whether these are the seats of all workers, each once.
 fn are_seated<L: Ledger>(seats: &[WorkerSeat<L>], workers: u32) -> bool
-    ensures { IsTrue result ↔ AreAllSeats workers seats.now }
+    ensures { IsTrue result ↔ AreAllWorkerSeats workers seats.now }
 {
     if seats.len() != workers as usize {
         return false;
@@ -117,7 +117,7 @@ fn count_of<L: Ledger>(seats: &[WorkerSeat<L>], number: u32) -> usize
 /// The least worker whose receipts are not those of the log.
 fn least_wrong<L: Ledger>(log: &[LogEntry], seats: &[WorkerSeat<L>], workers: u32) -> Option<u32>
     ensures none { IfNone result ((w : ℕ) → w < workers → HasMatchingReceipts log.now seats.now w) }
-    ensures some { IfSome result (λ w. (w < workers) × IsFirstWorkerNotMatching log.now seats.now w) }
+    ensures some { IfSome result (λ w. (w < workers) × IsFirstWorkerNotMatchingLog log.now seats.now w) }
 {
     for worker in 0..workers {
         if !agrees(log, seats, worker) {
@@ -133,7 +133,7 @@ fn agrees<L: Ledger>(log: &[LogEntry], seats: &[WorkerSeat<L>], worker: u32) -> 
 {
     for i in 0..seats.len() {
         let seat = &seats[i];
-        if seat.number() == worker && !receipts_match(log, worker, seat.receipts.as_slice()) {
+        if seat.number() == worker && !receipts_match_log(log, worker, seat.receipts.as_slice()) {
             return false;
         }
     }
@@ -141,14 +141,14 @@ fn agrees<L: Ledger>(log: &[LogEntry], seats: &[WorkerSeat<L>], worker: u32) -> 
 }
 
 /// Whether a worker's receipts are the log's entries of that worker, in order and with their places.
-pub fn receipts_match(log: &[LogEntry], worker: u32, receipts: &[Receipt]) -> bool
+pub fn receipts_match_log(log: &[LogEntry], worker: u32, receipts: &[CallReceipt]) -> bool
     ensures { IsTrue result ↔ (receipts.now ≡ receipts_of_worker worker 0 log.now) }
 {
     let mut left = receipts;
     for place in 0..log.len() {
         let entry = log[place];
         if entry.worker == worker {
-            let receipt = Receipt {
+            let receipt = CallReceipt {
                 place: place as u64,
                 call: entry.call,
                 answer: entry.answer,
@@ -163,9 +163,9 @@ pub fn receipts_match(log: &[LogEntry], worker: u32, receipts: &[Receipt]) -> bo
 }
 
 /// The receipts after the first, if that is this one.
-fn after_first<'a>(receipts: &'a [Receipt], receipt: &Receipt) -> Option<&'a [Receipt]>
+fn after_first<'a>(receipts: &'a [CallReceipt], receipt: &CallReceipt) -> Option<&'a [CallReceipt]>
     ensures some { IfSome result (λ others. receipts.now ≡ receipt.now ∷ others.now) }
-    ensures none { IfNone result ((others : List Receipt) → receipts.now ≢ receipt.now ∷ others) }
+    ensures none { IfNone result ((others : List CallReceipt) → receipts.now ≢ receipt.now ∷ others) }
 {
     let (first, others) = receipts.split_first()?;
     if first.is_equal_to(receipt) {

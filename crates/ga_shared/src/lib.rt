@@ -9,9 +9,9 @@ mod racing;
 mod shared;
 mod workers;
 
-pub use call::{Call, CallAnswer, LogEntry, Receipt, SharedFault};
-pub use closing::{CloseFault, ClosedLab, receipts_match};
+pub use call::{Call, CallAnswer, CallReceipt, LogEntry, SharedLabFault};
+pub use closing::{CloseFault, UnsharedLab, receipts_match_log};
 pub use locked::{LockedLab, WorkerSeat};
-pub use racing::{RaceFault, race};
-pub use shared::SharedChip;
-pub use workers::{CallGate, OpenGate, make_calls};
+pub use racing::{WorkerRaceFault, race};
+pub use shared::SharedLab;
+pub use workers::{CallHooks, NoEffectCallHooks, make_worker_calls};

@@ -3,7 +3,7 @@
 ghost use Rattle.std.specs.Prelude.{◌≡◌, ◌≢◌, IfOk, OnOk, OnErr};
 ghost use Rattle.ga_shared.specs.Log.{call_answer, state_after_call, refusal_number};
 
-use crate::call::{Call, CallAnswer, LogEntry, Receipt, SharedFault};
+use crate::call::{Call, CallAnswer, CallReceipt, LogEntry, SharedLabFault};
 use ga_grid::Chip;
 use ga_lab::{Lab, LabFault};
 use std::marker::Model;
@@ -15,7 +15,7 @@ use std::sync::ledger::{Book, Ledger, Share};
 pub struct WorkerSeat<L: Ledger> {
     pub(crate) number: u32,
     /// The receipts of the worker's calls, in the order in which it made them.
-    pub receipts: Vec<Receipt>,
+    pub receipts: Vec<CallReceipt>,
     pub(crate) share: Share<L>,
 }
 
@@ -51,14 +51,14 @@ pub struct LockedLab<L: Ledger> {
 }
 
 impl<L: Ledger> Model for LockedLab<L> {
-    ghost use Rattle.ga_grid.specs.Chip.{records_of};
+    ghost use Rattle.ga_grid.specs.Chip.{records_of_chip};
     ghost use Rattle.ga_shared.specs.Log.{LockedState, HasConsistentLog};
 
     ghost Value = { LockedState };
 
-    ghost view = { λ l. record { load = records_of l.load; lab = l.lab; log = l.log.items; calls = l.book.total } };
+    ghost view = { λ l. record { load = records_of_chip l.load; lab = l.lab; log = l.log.items; calls = l.book.total } };
 
-    ghost invariant = { λ l. HasConsistentLog (record { load = records_of l.load; lab = l.lab; log = l.log.items; calls = l.book.total }) };
+    ghost invariant = { λ l. HasConsistentLog (record { load = records_of_chip l.load; lab = l.lab; log = l.log.items; calls = l.book.total }) };
 }
 
 impl<L: Ledger> LockedLab<L> {
@@ -70,7 +70,11 @@ impl<L: Ledger> LockedLab<L> {
     /// # Errors
     /// `Memory` alone; then nothing changed.
     #[inline(always)]
-    pub fn call(&mut self, seat: &mut WorkerSeat<L>, call: Call) -> Result<Receipt, SharedFault>
+    pub fn call(
+        &mut self,
+        seat: &mut WorkerSeat<L>,
+        call: Call,
+    ) -> Result<CallReceipt, SharedLabFault>
         ensures makes { IfOk result (λ receipt. IsLoggedCall self.old self.new seat.old seat.new call receipt) }
         ensures place { seat.old.calls ≤ length self.old.log }
         ensures memory { OnErr result ((self.new ≡ self.old) × (seat.new ≡ seat.old)) }
@@ -78,13 +82,13 @@ impl<L: Ledger> LockedLab<L> {
     {
         self.book.audit(&mut seat.share);
         let Ok(()) = seat.receipts.reserve(1) else {
-            return Err(SharedFault::Memory);
+            return Err(SharedLabFault::Memory);
         };
         let Ok(()) = self.log.reserve(1) else {
-            return Err(SharedFault::Memory);
+            return Err(SharedLabFault::Memory);
         };
         let place = self.log.len() as u64;
-        let receipt = Receipt {
+        let receipt = CallReceipt {
             place,
             call,
             answer: answer(&mut self.lab, call)?,
@@ -98,7 +102,7 @@ impl<L: Ledger> LockedLab<L> {
 
 /// Makes a call of the lab.
 #[inline(always)]
-fn answer(lab: &mut Lab, call: Call) -> Result<CallAnswer, SharedFault>
+fn answer(lab: &mut Lab, call: Call) -> Result<CallAnswer, SharedLabFault>
     ensures answer { IfOk result (λ answer. answer ≡ call_answer lab.old call) }
     ensures given { IfOk result (λ answer. answer ≢ CallAnswer.Refused 4) }
     ensures lab { OnOk result (lab.new ≡ state_after_call lab.old call) }
@@ -117,7 +121,7 @@ fn answer(lab: &mut Lab, call: Call) -> Result<CallAnswer, SharedFault>
 }
 
 /// A refusal is an answer, unless there was no memory.
-fn refused(fault: LabFault) -> Result<CallAnswer, SharedFault>
+fn refused(fault: LabFault) -> Result<CallAnswer, SharedLabFault>
     ensures answer { IfOk result (λ answer. answer ≡ CallAnswer.Refused (refusal_number fault)) }
     ensures given { IfOk result (λ answer. answer ≢ CallAnswer.Refused 4) }
     ensures some { OnOk result (fault ≢ LabFault.Memory) }
@@ -127,9 +131,9 @@ fn refused(fault: LabFault) -> Result<CallAnswer, SharedFault>
         LabFault::Waiting => Ok(CallAnswer::Refused(1)),
         LabFault::Stopped => Ok(CallAnswer::Refused(2)),
         LabFault::Full => Ok(CallAnswer::Refused(3)),
-        LabFault::Memory => Err(SharedFault::Memory),
+        LabFault::Memory => Err(SharedLabFault::Memory),
         LabFault::Empty => Ok(CallAnswer::Refused(5)),
         LabFault::NoStep => Ok(CallAnswer::Refused(6)),
-        LabFault::Spent => Ok(CallAnswer::Refused(7)),
+        LabFault::EventNumbersSpent => Ok(CallAnswer::Refused(7)),
     }
 }

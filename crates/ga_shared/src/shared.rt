@@ -2,7 +2,7 @@
 
 ghost use Rattle.ga_shared.specs.declared.call.Call.TheVariants.{Step, Rewind};
 
-use crate::call::{Call, Receipt, SharedFault};
+use crate::call::{Call, CallReceipt, SharedLabFault};
 use crate::copies::copy_of;
 use crate::locked::{LockedLab, WorkerSeat};
 use ga_grid::{Chip, NodeId};
@@ -16,28 +16,28 @@ use std::sync::{Mutex, Wait};
 /// consumes the seats and returns the lab and the log. Outside the lock are a copy of the chip, the limit and the number of
 /// workers, which no call changes.
 #[derive(Drop)]
-pub struct SharedChip<L: Ledger> {
+pub struct SharedLab<L: Ledger> {
     pub(crate) locked: Mutex<LockedLab<L>>,
     pub(crate) load: Chip,
     pub(crate) limit: u32,
     pub(crate) workers: u32,
 }
 
-impl<L: Ledger> Model for SharedChip<L> {
+impl<L: Ledger> Model for SharedLab<L> {
     ghost use Rattle.std.specs.Prelude.{◌≡◌, ◌≤◌};
-    ghost use Rattle.ga_grid.specs.Chip.{records_of};
+    ghost use Rattle.ga_grid.specs.Chip.{records_of_chip};
     ghost use Rattle.ga_shared.specs.Log.{OpeningParameters};
 
     ghost Value = { OpeningParameters };
 
-    ghost view = { λ s. record { load = records_of s.load; limit = s.limit; workers = s.workers } };
+    ghost view = { λ s. record { load = records_of_chip s.load; limit = s.limit; workers = s.workers } };
 
     ghost invariant = { λ s. (s.workers ≡ L.parts) × (1 ≤ s.workers) × (s.workers ≤ 16) };
 }
 
-impl<L: Ledger> SharedChip<L> {
+impl<L: Ledger> SharedLab<L> {
     ghost use Rattle.std.specs.Prelude.{◌≡◌, ◌<◌, ◌≤◌, ℕ, IfOk, OnErr, Some, vec_len, slice_get};
-    ghost use Rattle.ga_grid.specs.Chip.{records_of};
+    ghost use Rattle.ga_grid.specs.Chip.{records_of_chip};
     ghost use Rattle.ga_shared.specs.Log.{CountsCall, fresh_worker};
 
     /// A shared chip that keeps at most `limit` events, and a seat for each worker, numbered from 0. `blank` is a new ledger, with a
@@ -51,20 +51,20 @@ impl<L: Ledger> SharedChip<L> {
         chip: Chip,
         limit: u32,
         workers: u32,
-    ) -> Result<(SharedChip<L>, Vec<WorkerSeat<L>>), SharedFault>
+    ) -> Result<(SharedLab<L>, Vec<WorkerSeat<L>>), SharedLabFault>
         requires ledger { (blank.name ≡ L.name) × (blank.parts ≡ L.parts) }
         requires parts { blank.parts ≡ workers }
         requires workers { (1 ≤ workers) × (workers ≤ 16) }
         ensures shared { IfOk result (λ made.
-            made.0 ≡ record { load = records_of chip; limit = limit; workers = workers }) }
+            made.0 ≡ record { load = records_of_chip chip; limit = limit; workers = workers }) }
         ensures seats { IfOk result (λ made. (vec_len made.1 ≡ workers)
             × ((w : ℕ) → w < workers → slice_get made.1.items w ≡ Some (fresh_worker w))) }
     {
         let Ok(load) = copy_of(alloc, &chip) else {
-            return Err(SharedFault::Memory);
+            return Err(SharedLabFault::Memory);
         };
         let Ok(copy) = copy_of(alloc, &chip) else {
-            return Err(SharedFault::Memory);
+            return Err(SharedLabFault::Memory);
         };
         let (book, mut rest) = blank.open::<L>();
         let mut seats = Vec::new(alloc);
@@ -76,11 +76,11 @@ impl<L: Ledger> SharedChip<L> {
                 share,
             };
             let Ok(()) = seats.push(seat) else {
-                return Err(SharedFault::Memory);
+                return Err(SharedLabFault::Memory);
             };
         }
         let Ok(lab) = Lab::new(alloc, chip, limit) else {
-            return Err(SharedFault::Memory);
+            return Err(SharedLabFault::Memory);
         };
         let locked = LockedLab {
             lab,
@@ -88,7 +88,7 @@ impl<L: Ledger> SharedChip<L> {
             log: Vec::new(alloc),
             book,
         };
-        let shared = SharedChip {
+        let shared = SharedLab {
             locked: Mutex::new(locked),
             load,
             limit,
@@ -106,7 +106,7 @@ impl<L: Ledger> SharedChip<L> {
         rt: &impl Wait,
         seat: &mut WorkerSeat<L>,
         node: NodeId,
-    ) -> Result<Receipt, SharedFault>
+    ) -> Result<CallReceipt, SharedLabFault>
         ensures counts { IfOk result (λ receipt. CountsCall seat.old seat.new (Step node) receipt) }
         ensures memory { OnErr result (seat.new ≡ seat.old) }
     {
@@ -123,7 +123,7 @@ impl<L: Ledger> SharedChip<L> {
         seat: &mut WorkerSeat<L>,
         node: NodeId,
         step: u32,
-    ) -> Result<Receipt, SharedFault>
+    ) -> Result<CallReceipt, SharedLabFault>
         ensures counts { IfOk result (λ receipt. CountsCall seat.old seat.new (Rewind node step) receipt) }
         ensures memory { OnErr result (seat.new ≡ seat.old) }
     {

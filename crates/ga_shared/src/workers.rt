@@ -3,9 +3,9 @@
 ghost use Rattle.std.specs.Prelude.{◌≡◌, ◌<◌, ◌^◌, ℕ, length, take, IfOk, OnOk, OnErr};
 ghost use Rattle.ga_shared.specs.Log.{HasMadeCalls, CountsCall};
 
-use crate::call::{Call, Receipt, SharedFault};
+use crate::call::{Call, CallReceipt, SharedLabFault};
 use crate::locked::WorkerSeat;
-use crate::shared::SharedChip;
+use crate::shared::SharedLab;
 use std::sync::Wait;
 use std::sync::ledger::Ledger;
 
@@ -13,13 +13,13 @@ use std::sync::ledger::Ledger;
 ///
 /// # Errors
 /// `Memory` alone; the calls before it were made.
-pub fn make_calls<L: Ledger, G: CallGate, R: Wait>(
+pub fn make_worker_calls<L: Ledger, G: CallHooks, R: Wait>(
     rt: &R,
-    shared: &SharedChip<L>,
+    shared: &SharedLab<L>,
     seat: &mut WorkerSeat<L>,
     gate: &G,
     calls: &[Call],
-) -> Result<(), SharedFault>
+) -> Result<(), SharedLabFault>
     requires { length calls.now < 2 ^ 32 }
     ensures done { OnOk result (HasMadeCalls seat.old seat.new calls.now) }
     ensures fault { OnErr result
@@ -38,10 +38,10 @@ pub fn make_calls<L: Ledger, G: CallGate, R: Wait>(
 /// Makes one call.
 fn make<L: Ledger, R: Wait>(
     rt: &R,
-    shared: &SharedChip<L>,
+    shared: &SharedLab<L>,
     seat: &mut WorkerSeat<L>,
     call: Call,
-) -> Result<Receipt, SharedFault>
+) -> Result<CallReceipt, SharedLabFault>
     ensures counts { IfOk result (λ receipt. CountsCall seat.old seat.new call receipt) }
     ensures memory { OnErr result (seat.new ≡ seat.old) }
 {
@@ -52,7 +52,7 @@ fn make<L: Ledger, R: Wait>(
 }
 
 /// Called before and after each call of a worker, outside the lock. Calls count from 1.
-pub trait CallGate {
+pub trait CallHooks {
     /// The worker is about to make the call.
     fn before(&self, worker: u32, call: u32);
 
@@ -62,9 +62,9 @@ pub trait CallGate {
 
 /// The gate that does nothing.
 #[derive(Clone, Copy, Debug)]
-pub struct OpenGate;
+pub struct NoEffectCallHooks;
 
-impl CallGate for OpenGate {
+impl CallHooks for NoEffectCallHooks {
     fn before(&self, _worker: u32, _call: u32) {}
 
     fn after(&self, _worker: u32, _call: u32) {}

@@ -3,17 +3,17 @@ use Rattle.std.proofs.Common.{◌≡◌, ◌∙◌, ℕ, zero, suc, inl, inr, �
 use Rattle.std.proofs.lemmas.List.{get_or-map, take-map, drop-map, drop_all}
 use Rattle.ga_source.specs.declared.program.Program.{Program}
 use Rattle.ga_parser.specs.declared.scan.Token.{Token}
-use Rattle.ga_parser.specs.inner.Drafting.{texts_of}
+use Rattle.ga_parser.specs.inner.Drafting.{texts_of_tokens}
 use Rattle.std.specs.Prelude.{codes}
 use Rattle.std.proofs.lemmas.Bool.{cases_Bool}
-use Rattle.ga_grid.specs.Grid.{parse_node_name}
-use Rattle.ga_parser.specs.Plain.{Plain, is_node_keyword, body_words, body_word_lists, named_node_number, plain_requests_of, as_plain_requests, token_texts}
-use Rattle.ga_source.specs.Programs.{IsPlainProgramOf, ArePlainProgramsOf, body_tokens, body_token_lists, HasRequestsOfWords, IsProgramOfBody, AreProgramsOfBodies}
+use Rattle.ga_grid.specs.Grid.{parse_decimal_name}
+use Rattle.ga_parser.specs.Plain.{PlainRequests, is_node_keyword, body_words, body_word_lists, named_node_number, plain_requests_of_words, as_plain_requests, token_texts}
+use Rattle.ga_source.specs.Programs.{IsPlainBodyProgram, ArePlainBodyPrograms, body_tokens, body_token_lists, HasRequestsOfWords, IsProgramOfBody, AreProgramsOfBodies}
 use Rattle.ga_parser.specs.Saying.{token_contents, TokenContent, next_line_number}
 use Rattle.ga_parser.proofs.Hearing.{same_text}
 use Rattle.ga_parser.proofs.PlainAsked.{map_map}
 use Rattle.ga_source.specs.inner.{AreOfFirst, AreAskedFirst}
-use Rattle.ga_source.specs.Recovery.{token_with_line, tokens_with_numbers}
+use Rattle.ga_source.specs.Recovery.{token_with_line, tokens_with_word_numbers}
 
 -- ---- up to the next `node`
 
@@ -59,19 +59,19 @@ abbrev tail_of : {X : Type 0} → List (List X) → List (List X)
 tail_of [] = []
 tail_of (words ∷ rest) = rest
 
-pub first_more : (all : List (List (List ℕ))) (programs : List Program) (left rest : List (List (List ℕ))) (words : List (List ℕ)) (program : Program) → left ≡ words ∷ rest → IsPlainProgramOf words program → AreOfFirst all programs left → AreOfFirst all (programs ++ program ∷ []) rest
+pub first_more : (all : List (List (List ℕ))) (programs : List Program) (left rest : List (List (List ℕ))) (words : List (List ℕ)) (program : Program) → left ≡ words ∷ rest → IsPlainBodyProgram words program → AreOfFirst all programs left → AreOfFirst all (programs ++ program ∷ []) rest
 unfolding AreOfFirst
 first_more [] [] left rest words program is of first = absurd (no_words (first ∙ is))
 first_more (body ∷ all) [] left rest words program is of first =
     let same = first ∙ is in
-    (subst (λ w. IsPlainProgramOf w program) (sym (ap head_of same)) of, ap tail_of same)
+    (subst (λ w. IsPlainBodyProgram w program) (sym (ap head_of same)) of, ap tail_of same)
 first_more [] (p ∷ programs) left rest words program is of first = absurd first
 first_more (body ∷ all) (p ∷ programs) left rest words program is of first =
     (first.0, first_more all programs left rest words program is of first.1)
 
 -- none is left
-pub first_all : (all : List (List (List ℕ))) (programs : List Program) → AreOfFirst all programs [] → ArePlainProgramsOf all programs
-unfolding AreOfFirst ArePlainProgramsOf
+pub first_all : (all : List (List (List ℕ))) (programs : List Program) → AreOfFirst all programs [] → ArePlainBodyPrograms all programs
+unfolding AreOfFirst ArePlainBodyPrograms
 first_all [] [] none = tt
 first_all (body ∷ all) [] none = absurd (no_words (sym none))
 first_all [] (p ∷ programs) first = absurd first
@@ -79,17 +79,17 @@ first_all (body ∷ all) (p ∷ programs) first = (first.0, first_all all progra
 
 -- ---- the same of tokens
 
-pub front_of : (tokens : List Token) (i : ℕ) → ((k : ℕ) → k < i → is_node_keyword (get_or (texts_of tokens) k []) ≡ false) → (i < length (texts_of tokens) → is_node_keyword (get_or (texts_of tokens) i []) ≡ true) → texts_of (take i tokens) ≡ body_words (texts_of tokens)
-front_of tokens i none here = sym (take-map (λ token. token.text.now) i tokens) ∙ body_ends (texts_of tokens) i none here
+pub front_of : (tokens : List Token) (i : ℕ) → ((k : ℕ) → k < i → is_node_keyword (get_or (texts_of_tokens tokens) k []) ≡ false) → (i < length (texts_of_tokens tokens) → is_node_keyword (get_or (texts_of_tokens tokens) i []) ≡ true) → texts_of_tokens (take i tokens) ≡ body_words (texts_of_tokens tokens)
+front_of tokens i none here = sym (take-map (λ token. token.text.now) i tokens) ∙ body_ends (texts_of_tokens tokens) i none here
 
-pub behind_of : (tokens : List Token) (i : ℕ) → ((k : ℕ) → k < i → is_node_keyword (get_or (texts_of tokens) k []) ≡ false) → body_word_lists (texts_of (drop i tokens)) ≡ body_word_lists (texts_of tokens)
-behind_of tokens i none = ap body_word_lists (sym (drop-map (λ token. token.text.now) i tokens)) ∙ bodies_behind (texts_of tokens) i none
+pub behind_of : (tokens : List Token) (i : ℕ) → ((k : ℕ) → k < i → is_node_keyword (get_or (texts_of_tokens tokens) k []) ≡ false) → body_word_lists (texts_of_tokens (drop i tokens)) ≡ body_word_lists (texts_of_tokens tokens)
+behind_of tokens i none = ap body_word_lists (sym (drop-map (λ token. token.text.now) i tokens)) ∙ bodies_behind (texts_of_tokens tokens) i none
 
-pub next_of : (tokens : List Token) (i : ℕ) → (i < length (texts_of tokens) → is_node_keyword (get_or (texts_of tokens) i []) ≡ true) → body_words (texts_of (drop i tokens)) ≡ []
-next_of tokens i here = ap body_words (sym (drop-map (λ token. token.text.now) i tokens)) ∙ body_next (texts_of tokens) i here
+pub next_of : (tokens : List Token) (i : ℕ) → (i < length (texts_of_tokens tokens) → is_node_keyword (get_or (texts_of_tokens tokens) i []) ≡ true) → body_words (texts_of_tokens (drop i tokens)) ≡ []
+next_of tokens i here = ap body_words (sym (drop-map (λ token. token.text.now) i tokens)) ∙ body_next (texts_of_tokens tokens) i here
 
 -- the test of a token
-pub tested : (tokens : List Token) (i : ℕ) (d : Token) (b : Bool) → i < length tokens → is_node_keyword (get_or tokens i d).text.now ≡ b → is_node_keyword (get_or (texts_of tokens) i []) ≡ b
+pub tested : (tokens : List Token) (i : ℕ) (d : Token) (b : Bool) → i < length tokens → is_node_keyword (get_or tokens i d).text.now ≡ b → is_node_keyword (get_or (texts_of_tokens tokens) i []) ≡ b
 tested tokens i d b within is = ap is_node_keyword (get_or-map (λ token. token.text.now) tokens i d [] within) ∙ is
 
 -- ---- the words of the node that comes first
@@ -108,13 +108,13 @@ drop_twice (a ∷ b ∷ list) count = let same : suc (suc count) ≡ count + 2 =
 
 -- a node's name is no `node`
 pub name_is_other : (name : List ℕ) (n : ℕ) → named_node_number name ≡ Some n → is_node_keyword name ≡ false
-unfolding parse_node_name
+unfolding parse_decimal_name
 name_is_other name n is = elim (cases_Bool (is_node_keyword name)) [
   | inl node ↦ absurd (no_number (ap named_node_number (sym (same_text name (codes "node") node)) ∙ is))
   | inr other ↦ other
 ]
 
-first_body : (words : List Token) (d : Token) (n : ℕ) → 2 ≤ length words → is_node_keyword (get_or words 0 d).text.now ≡ true → named_node_number (get_or words 1 d).text.now ≡ Some n → body_word_lists (texts_of words) ≡ ((get_or words 1 d).text.now ∷ body_words (texts_of (drop 2 words))) ∷ body_word_lists (texts_of (drop 2 words))
+first_body : (words : List Token) (d : Token) (n : ℕ) → 2 ≤ length words → is_node_keyword (get_or words 0 d).text.now ≡ true → named_node_number (get_or words 1 d).text.now ≡ Some n → body_word_lists (texts_of_tokens words) ≡ ((get_or words 1 d).text.now ∷ body_words (texts_of_tokens (drop 2 words))) ∷ body_word_lists (texts_of_tokens (drop 2 words))
 unfolding body_words body_word_lists
 first_body [] d n two node name = absurd (omega arith)
 first_body (a ∷ []) d n two node name = absurd (omega arith)
@@ -126,45 +126,45 @@ pub one_more_read : (words behind body : List Token) (d : Token) (first name : L
     → first ≡ (get_or words 0 d).text.now → is_node_keyword first ≡ true
     → name ≡ (get_or words 1 d).text.now → named_node_number name ≡ Some program.node.number
     → after ≡ programs ++ program ∷ [] → behind ≡ drop 2 words → body ≡ take count behind
-    → texts_of (take count behind) ≡ body_words (texts_of behind) → body_word_lists (texts_of (drop count behind)) ≡ body_word_lists (texts_of behind)
-    → ((plain : Plain) → plain_requests_of (texts_of body) ≡ Some plain → as_plain_requests program.asked.items program.registers ≡ plain)
-    → ((plain : Plain) → plain_requests_of (texts_of body) ≡ Some plain → program.names.items ≡ [])
-    → AreOfFirst all programs (body_word_lists (texts_of words)) → AreOfFirst all after (body_word_lists (texts_of (drop (count + 2) words)))
+    → texts_of_tokens (take count behind) ≡ body_words (texts_of_tokens behind) → body_word_lists (texts_of_tokens (drop count behind)) ≡ body_word_lists (texts_of_tokens behind)
+    → ((plain : PlainRequests) → plain_requests_of_words (texts_of_tokens body) ≡ Some plain → as_plain_requests program.asked.items program.registers ≡ plain)
+    → ((plain : PlainRequests) → plain_requests_of_words (texts_of_tokens body) ≡ Some plain → program.names.items ≡ [])
+    → AreOfFirst all programs (body_word_lists (texts_of_tokens words)) → AreOfFirst all after (body_word_lists (texts_of_tokens (drop (count + 2) words)))
 one_more_read words behind body d first name count program programs after all two is_first node is_name named pushed is_behind is_body front rest asks names read =
-    let texts : texts_of body ≡ body_words (texts_of behind) = ap texts_of is_body ∙ front in
-    let of : IsPlainProgramOf (name ∷ body_words (texts_of behind)) program = record {
+    let texts : texts_of_tokens body ≡ body_words (texts_of_tokens behind) = ap texts_of_tokens is_body ∙ front in
+    let of : IsPlainBodyProgram (name ∷ body_words (texts_of_tokens behind)) program = record {
       node = named;
-      asks = λ plain is. asks plain (ap plain_requests_of texts ∙ is);
-      names = λ plain is. names plain (ap plain_requests_of texts ∙ is);
+      asks = λ plain is. asks plain (ap plain_requests_of_words texts ∙ is);
+      names = λ plain is. names plain (ap plain_requests_of_words texts ∙ is);
     } in
-    let left : body_word_lists (texts_of words) ≡ (name ∷ body_words (texts_of behind)) ∷ body_word_lists (texts_of behind) =
+    let left : body_word_lists (texts_of_tokens words) ≡ (name ∷ body_words (texts_of_tokens behind)) ∷ body_word_lists (texts_of_tokens behind) =
     first_body words d program.node.number two (ap is_node_keyword (sym is_first) ∙ node) (ap named_node_number (sym is_name) ∙ named)
-    ∙ (ap (λ (n : List ℕ). (n ∷ body_words (texts_of (drop 2 words))) ∷ body_word_lists (texts_of (drop 2 words))) (sym is_name)
-    ∙ ap (λ (b : List Token). (name ∷ body_words (texts_of b)) ∷ body_word_lists (texts_of b)) (sym is_behind)) in
-    let more = first_more all programs (body_word_lists (texts_of words)) (body_word_lists (texts_of behind)) (name ∷ body_words (texts_of behind)) program left of read in
-    let last : body_word_lists (texts_of behind) ≡ body_word_lists (texts_of (drop (count + 2) words)) =
-    sym rest ∙ ap (λ (b : List Token). body_word_lists (texts_of b)) (ap (drop count) is_behind ∙ drop_twice words count) in
+    ∙ (ap (λ (n : List ℕ). (n ∷ body_words (texts_of_tokens (drop 2 words))) ∷ body_word_lists (texts_of_tokens (drop 2 words))) (sym is_name)
+    ∙ ap (λ (b : List Token). (name ∷ body_words (texts_of_tokens b)) ∷ body_word_lists (texts_of_tokens b)) (sym is_behind)) in
+    let more = first_more all programs (body_word_lists (texts_of_tokens words)) (body_word_lists (texts_of_tokens behind)) (name ∷ body_words (texts_of_tokens behind)) program left of read in
+    let last : body_word_lists (texts_of_tokens behind) ≡ body_word_lists (texts_of_tokens (drop (count + 2) words)) =
+    sym rest ∙ ap (λ (b : List Token). body_word_lists (texts_of_tokens b)) (ap (drop count) is_behind ∙ drop_twice words count) in
     subst (λ (l : List (List (List ℕ))). AreOfFirst all after l) last
-    (subst (λ (p : List Program). AreOfFirst all p (body_word_lists (texts_of behind))) (sym pushed) more)
+    (subst (λ (p : List Program). AreOfFirst all p (body_word_lists (texts_of_tokens behind))) (sym pushed) more)
 
 -- ---- a source
 
 -- none is read
-pub none_read : (words : List Token) (programs : List Program) → programs ≡ [] → AreOfFirst (body_word_lists (token_texts (token_contents words))) programs (body_word_lists (texts_of words))
+pub none_read : (words : List Token) (programs : List Program) → programs ≡ [] → AreOfFirst (body_word_lists (token_texts (token_contents words))) programs (body_word_lists (texts_of_tokens words))
 unfolding AreOfFirst
 none_read words programs none =
-    subst (λ (p : List Program). AreOfFirst (body_word_lists (token_texts (token_contents words))) p (body_word_lists (texts_of words))) (sym none) (ap body_word_lists (map_map words))
+    subst (λ (p : List Program). AreOfFirst (body_word_lists (token_texts (token_contents words))) p (body_word_lists (texts_of_tokens words))) (sym none) (ap body_word_lists (map_map words))
 
 -- all are read
-pub all_read : (words left : List Token) (programs : List Program) → left ≡ [] → AreOfFirst (body_word_lists (token_texts (token_contents words))) programs (body_word_lists (texts_of left)) → ArePlainProgramsOf (body_word_lists (token_texts (token_contents words))) programs
+pub all_read : (words left : List Token) (programs : List Program) → left ≡ [] → AreOfFirst (body_word_lists (token_texts (token_contents words))) programs (body_word_lists (texts_of_tokens left)) → ArePlainBodyPrograms (body_word_lists (token_texts (token_contents words))) programs
 unfolding body_word_lists
 all_read words left programs none read =
     first_all (body_word_lists (token_texts (token_contents words))) programs
-    (subst (λ (rest : List Token). AreOfFirst (body_word_lists (token_texts (token_contents words))) programs (body_word_lists (texts_of rest))) none read)
+    (subst (λ (rest : List Token). AreOfFirst (body_word_lists (token_texts (token_contents words))) programs (body_word_lists (texts_of_tokens rest))) none read)
 
 -- ---- up to the next `node`
 
-pub said_front : (tokens : List Token) (i : ℕ) → ((k : ℕ) → k < i → is_node_keyword (get_or (texts_of tokens) k []) ≡ false) → (i < length (texts_of tokens) → is_node_keyword (get_or (texts_of tokens) i []) ≡ true) → token_contents (take i tokens) ≡ body_tokens (token_contents tokens)
+pub said_front : (tokens : List Token) (i : ℕ) → ((k : ℕ) → k < i → is_node_keyword (get_or (texts_of_tokens tokens) k []) ≡ false) → (i < length (texts_of_tokens tokens) → is_node_keyword (get_or (texts_of_tokens tokens) i []) ≡ true) → token_contents (take i tokens) ≡ body_tokens (token_contents tokens)
 unfolding body_tokens
 said_front [] zero none here = refl
 said_front [] (suc i) none here = refl
@@ -173,7 +173,7 @@ said_front (token ∷ tokens) (suc i) none here =
     let other : is_node_keyword token.text.now ≡ false = none 0 (omega arith) in
     rw other (ap (λ (rest : List TokenContent). record { line = token.line; text = token.text.now; kind = token.kind } ∷ rest) (said_front tokens i (λ k below. none (suc k) (omega arith)) (λ below. here (omega arith))))
 
-pub said_behind : (tokens : List Token) (i : ℕ) → ((k : ℕ) → k < i → is_node_keyword (get_or (texts_of tokens) k []) ≡ false) → body_token_lists (token_contents (drop i tokens)) ≡ body_token_lists (token_contents tokens)
+pub said_behind : (tokens : List Token) (i : ℕ) → ((k : ℕ) → k < i → is_node_keyword (get_or (texts_of_tokens tokens) k []) ≡ false) → body_token_lists (token_contents (drop i tokens)) ≡ body_token_lists (token_contents tokens)
 unfolding body_token_lists
 said_behind [] zero none = refl
 said_behind [] (suc i) none = refl
@@ -246,15 +246,15 @@ all_asked words left programs none read =
 
 -- ---- numbers
 
-pub one_numbered : (words : List Token) (k number : ℕ) (d one : Token) (before new all : List Token) → k < length words → one ≡ token_with_line (get_or words k d) number → new ≡ before ++ one ∷ [] → before ++ tokens_with_numbers number (drop k words) ≡ all → new ++ tokens_with_numbers (next_line_number number) (drop (k + 1) words) ≡ all
-unfolding tokens_with_numbers
+pub one_numbered : (words : List Token) (k number : ℕ) (d one : Token) (before new all : List Token) → k < length words → one ≡ token_with_line (get_or words k d) number → new ≡ before ++ one ∷ [] → before ++ tokens_with_word_numbers number (drop k words) ≡ all → new ++ tokens_with_word_numbers (next_line_number number) (drop (k + 1) words) ≡ all
+unfolding tokens_with_word_numbers
 one_numbered words k number d one before new all within is pushed e =
     let next : suc k ≡ k + 1 = omega arith in
     let left : drop k words ≡ get_or words k d ∷ drop (k + 1) words = drop-cons words k d within ∙ ap (λ (j : ℕ). get_or words k d ∷ drop j words) next in
-    ap (λ (l : List Token). l ++ tokens_with_numbers (next_line_number number) (drop (k + 1) words)) (pushed ∙ ap (λ (o : Token). before ++ o ∷ []) is)
-    ∙ (append_assoc before (token_with_line (get_or words k d) number ∷ []) (tokens_with_numbers (next_line_number number) (drop (k + 1) words))
-    ∙ (ap (λ (l : List Token). before ++ tokens_with_numbers number l) (sym left) ∙ e))
+    ap (λ (l : List Token). l ++ tokens_with_word_numbers (next_line_number number) (drop (k + 1) words)) (pushed ∙ ap (λ (o : Token). before ++ o ∷ []) is)
+    ∙ (append_assoc before (token_with_line (get_or words k d) number ∷ []) (tokens_with_word_numbers (next_line_number number) (drop (k + 1) words))
+    ∙ (ap (λ (l : List Token). before ++ tokens_with_word_numbers number l) (sym left) ∙ e))
 
-pub all_numbered : (number : ℕ) (left before all : List Token) → left ≡ [] → before ++ tokens_with_numbers number left ≡ all → before ≡ all
-unfolding tokens_with_numbers
-all_numbered number left before all none e = sym (append-nil before) ∙ (ap (λ (l : List Token). before ++ tokens_with_numbers number l) (sym none) ∙ e)
+pub all_numbered : (number : ℕ) (left before all : List Token) → left ≡ [] → before ++ tokens_with_word_numbers number left ≡ all → before ≡ all
+unfolding tokens_with_word_numbers
+all_numbered number left before all none e = sym (append-nil before) ∙ (ap (λ (l : List Token). before ++ tokens_with_word_numbers number l) (sym none) ∙ e)

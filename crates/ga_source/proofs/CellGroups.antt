@@ -7,13 +7,13 @@ use Rattle.ga_parser.specs.declared.item.AssemblyItem.{AssemblyItem}
 use Rattle.ga_parser.specs.declared.item.AssemblyItem.TheVariants.{Cell}
 use Rattle.ga_source.specs.declared.group.CellGroup.{CellGroup}
 use Rattle.ga_parser.specs.declared.item.AssemblyRequest.{AssemblyRequest}
-use Rattle.ga_parser.specs.declared.item.AssemblyRequest.TheVariants.{Put, Go}
+use Rattle.ga_parser.specs.declared.item.AssemblyRequest.TheVariants.{PlaceItem, GoToAddress}
 use Rattle.ga_parser.specs.declared.item.LocatedRequest.{LocatedRequest}
 use Rattle.ga_source.specs.declared.packing.Packer.{Packer}
 use Rattle.ga_source.specs.declared.group.PackingSpot.{PackingSpot}
 use Rattle.ga_source.specs.Reading.{first_spot_of_cell, spot_after_item, item_fits_at_spot}
-use Rattle.ga_source.specs.Made.{address_after_request, requested_cell, requested_cells, cell_at_index, AreDistinctCells, IsMemoryAddress}
-use Rattle.ga_source.specs.inner.{IsClosed, requests_of, IsPlainRequest, ArePlain, address_after, IsCellGroup, AreCellGroups, IsPackedPlain, AreWords}
+use Rattle.ga_source.specs.Made.{address_after_assembly_request, requested_cell, requested_cells, cell_at_index, AreDistinctCells, IsMemoryAddress}
+use Rattle.ga_source.specs.inner.{IsCellClosed, requests_without_lines, IsDataCellOrGoToAddress, ArePlain, address_after, IsGroupOfOneDataCell, AreCellGroups, ArePlainRequestsPacked, AreCellValuesWords}
 
 -- from the k-th on, no cell is given
 abbrev pub AreOpen : List (Option ℕ) → List (ℕ × ℕ) → ℕ → Type 0
@@ -21,7 +21,7 @@ AreOpen given cells from = (k : ℕ) → from ≤ k → k < length cells → sli
 
 -- ---- one more
 
-pub one_group : (cells : List (ℕ × ℕ)) (groups : List CellGroup) (cell : ℕ × ℕ) (group : CellGroup) → AreCellGroups cells groups → IsCellGroup cell group → AreCellGroups (cells ++ cell ∷ []) (groups ++ group ∷ [])
+pub one_group : (cells : List (ℕ × ℕ)) (groups : List CellGroup) (cell : ℕ × ℕ) (group : CellGroup) → AreCellGroups cells groups → IsGroupOfOneDataCell cell group → AreCellGroups (cells ++ cell ∷ []) (groups ++ group ∷ [])
 unfolding AreCellGroups
 one_group [] [] cell group all one = (one, tt)
 one_group (first ∷ cells) (g ∷ groups) cell group all one = (all.0, one_group cells groups cell group all.1 one)
@@ -32,21 +32,21 @@ cells_more : (at : ℕ) (requests : List AssemblyRequest) (request : AssemblyReq
 unfolding requested_cells address_after
 cells_more at [] request = append-nil (requested_cell at request)
 cells_more at (first ∷ requests) request =
-    ap (λ (cells : List (ℕ × ℕ)). requested_cell at first ++ cells) (cells_more (address_after_request at first) requests request)
-    ∙ sym (append_assoc (requested_cell at first) (requested_cells (address_after_request at first) requests) (requested_cell (address_after (address_after_request at first) requests) request))
+    ap (λ (cells : List (ℕ × ℕ)). requested_cell at first ++ cells) (cells_more (address_after_assembly_request at first) requests request)
+    ∙ sym (append_assoc (requested_cell at first) (requested_cells (address_after_assembly_request at first) requests) (requested_cell (address_after (address_after_assembly_request at first) requests) request))
 
-after_more : (at : ℕ) (requests : List AssemblyRequest) (request : AssemblyRequest) → address_after at (requests ++ request ∷ []) ≡ address_after_request (address_after at requests) request
+after_more : (at : ℕ) (requests : List AssemblyRequest) (request : AssemblyRequest) → address_after at (requests ++ request ∷ []) ≡ address_after_assembly_request (address_after at requests) request
 unfolding address_after
 after_more at [] request = refl
-after_more at (first ∷ requests) request = after_more (address_after_request at first) requests request
+after_more at (first ∷ requests) request = after_more (address_after_assembly_request at first) requests request
 
 -- ---- the packer
 
 -- a cell is added
-pub added_cell : (before full closed : Packer) (next : PackingSpot) (item : AssemblyItem) (n : ℕ) (requests : List AssemblyRequest) → item ≡ Cell (Number n) → IsPackedPlain before requests
-    → full.filling.items ≡ before.filling.items ++ item ∷ [] → full.broken ≡ before.broken → full.spot ≡ before.spot → full.groups.items ≡ before.groups.items → IsClosed full closed
+pub added_cell : (before full closed : Packer) (next : PackingSpot) (item : AssemblyItem) (n : ℕ) (requests : List AssemblyRequest) → item ≡ Cell (Number n) → ArePlainRequestsPacked before requests
+    → full.filling.items ≡ before.filling.items ++ item ∷ [] → full.broken ≡ before.broken → full.spot ≡ before.spot → full.groups.items ≡ before.groups.items → IsCellClosed full closed
     → ((n : ℕ) (cells : List (ℕ × ℕ)) → full.filling.items ≡ Cell (Number n) ∷ [] → full.broken ≡ None → AreCellGroups cells full.groups.items → AreCellGroups (cells ++ (full.spot.at, n) ∷ []) closed.groups.items)
-    → next ≡ spot_after_item before.spot item → IsPackedPlain (record closed { spot = next }) (requests ++ Put item ∷ [])
+    → next ≡ spot_after_item before.spot item → ArePlainRequestsPacked (record closed { spot = next }) (requests ++ PlaceItem item ∷ [])
 added_cell before full closed next item n requests is packed filled broken spot groups done cell goes =
     let at = address_after 0 requests in
     let here : full.spot.at ≡ at = ap (λ (s : PackingSpot). s.at) (spot ∙ packed.spot) in
@@ -58,24 +58,24 @@ added_cell before full closed next item n requests is packed filled broken spot 
     record {
       filling = done.empty;
       whole = done.whole;
-      spot = goes ∙ (ap (λ (s : PackingSpot). spot_after_item s item) packed.spot ∙ (ap (spot_after_item (first_spot_of_cell at)) is ∙ ap first_spot_of_cell (sym (after_more 0 requests (Put item)))));
+      spot = goes ∙ (ap (λ (s : PackingSpot). spot_after_item s item) packed.spot ∙ (ap (spot_after_item (first_spot_of_cell at)) is ∙ ap first_spot_of_cell (sym (after_more 0 requests (PlaceItem item)))));
       groups = subst (λ (list : List (ℕ × ℕ)). AreCellGroups list closed.groups.items)
           (ap (λ (a : ℕ). requested_cells 0 requests ++ (a, n) ∷ []) here
-          ∙ (ap (λ (i : AssemblyItem). requested_cells 0 requests ++ requested_cell at (Put i)) (sym is) ∙ sym (cells_more 0 requests (Put item)))) cells;
+          ∙ (ap (λ (i : AssemblyItem). requested_cells 0 requests ++ requested_cell at (PlaceItem i)) (sym is) ∙ sym (cells_more 0 requests (PlaceItem item)))) cells;
     }
 
 -- another address
-pub gone_packed : (before closed : Packer) (spot : PackingSpot) (address : ℕ) (requests : List AssemblyRequest) → spot ≡ first_spot_of_cell address → IsPackedPlain before requests → closed ≡ before → IsPackedPlain (record closed { spot = spot }) (requests ++ Go address ∷ [])
+pub gone_packed : (before closed : Packer) (spot : PackingSpot) (address : ℕ) (requests : List AssemblyRequest) → spot ≡ first_spot_of_cell address → ArePlainRequestsPacked before requests → closed ≡ before → ArePlainRequestsPacked (record closed { spot = spot }) (requests ++ GoToAddress address ∷ [])
 gone_packed before closed spot address requests is packed stays = record {
   filling = ap (λ (p : Packer). p.filling.items) stays ∙ packed.filling;
   whole = ap (λ (p : Packer). p.broken) stays ∙ packed.whole;
-  spot = is ∙ ap first_spot_of_cell (sym (after_more 0 requests (Go address)));
-  groups = subst (λ (p : Packer). AreCellGroups (requested_cells 0 (requests ++ Go address ∷ [])) p.groups.items) (sym stays)
-      (subst (λ (list : List (ℕ × ℕ)). AreCellGroups list before.groups.items) (sym (cells_more 0 requests (Go address) ∙ append-nil (requested_cells 0 requests))) packed.groups);
+  spot = is ∙ ap first_spot_of_cell (sym (after_more 0 requests (GoToAddress address)));
+  groups = subst (λ (p : Packer). AreCellGroups (requested_cells 0 (requests ++ GoToAddress address ∷ [])) p.groups.items) (sym stays)
+      (subst (λ (list : List (ℕ × ℕ)). AreCellGroups list before.groups.items) (sym (cells_more 0 requests (GoToAddress address) ∙ append-nil (requested_cells 0 requests))) packed.groups);
 }
 
 -- a cell has room
-pub cell_fits : (packer : Packer) (requests : List AssemblyRequest) (item : AssemblyItem) (n : ℕ) → item ≡ Cell (Number n) → IsPackedPlain packer requests → item_fits_at_spot packer.labels.items packer.spot item ≡ true
+pub cell_fits : (packer : Packer) (requests : List AssemblyRequest) (item : AssemblyItem) (n : ℕ) → item ≡ Cell (Number n) → ArePlainRequestsPacked packer requests → item_fits_at_spot packer.labels.items packer.spot item ≡ true
 cell_fits packer requests item n is packed =
     ap (λ (s : PackingSpot). item_fits_at_spot packer.labels.items s item) packed.spot ∙ ap (item_fits_at_spot packer.labels.items (first_spot_of_cell (address_after 0 requests))) is
 
@@ -84,17 +84,17 @@ pub record IsCellItem (item : AssemblyItem) : Type 0 where
   pub n : ℕ
   pub is : item ≡ Cell (Number n)
 
-pub plain_item : (item : AssemblyItem) → IsPlainRequest (Put item) → IsCellItem item
+pub plain_item : (item : AssemblyItem) → IsDataCellOrGoToAddress (PlaceItem item) → IsCellItem item
 plain_item (Cell (Number n)) plain = record { n = n; is = refl }
 plain_item _ plain = absurd plain
 
 -- none is packed
-pub none_packed : (packer : Packer) → packer.filling.items ≡ [] → packer.broken ≡ None → packer.spot ≡ first_spot_of_cell 0 → packer.groups.items ≡ [] → IsPackedPlain packer []
+pub none_packed : (packer : Packer) → packer.filling.items ≡ [] → packer.broken ≡ None → packer.spot ≡ first_spot_of_cell 0 → packer.groups.items ≡ [] → ArePlainRequestsPacked packer []
 unfolding AreCellGroups requested_cells address_after
 none_packed packer filling whole spot groups = record { filling = filling; whole = whole; spot = spot; groups = subst (AreCellGroups []) (sym groups) tt }
 
 -- one of plain requests
-pub one_plain : (asked : List LocatedRequest) (i : ℕ) (d : LocatedRequest) → i < length asked → ArePlain (requests_of asked) → IsPlainRequest (slice_index_or asked i d).request
+pub one_plain : (asked : List LocatedRequest) (i : ℕ) (d : LocatedRequest) → i < length asked → ArePlain (requests_without_lines asked) → IsDataCellOrGoToAddress (slice_index_or asked i d).request
 unfolding ArePlain
 one_plain [] i d within plain = absurd (omega arith)
 one_plain (one ∷ asked) zero d within plain = plain.0
@@ -113,7 +113,7 @@ pub cell_item : (items : List AssemblyItem) (n i : ℕ) (d : AssemblyItem) → i
 cell_item items n zero d is within = ap (λ (list : List AssemblyItem). slice_index_or list 0 d) is
 cell_item items n (suc i) d is within = let one : length items ≡ 1 = ap length is in absurd (omega arith)
 
-pub group_at : (cells : List (ℕ × ℕ)) (groups : List CellGroup) (i : ℕ) (d : CellGroup) → AreCellGroups cells groups → i < length groups → IsCellGroup (cell_at_index cells i) (slice_index_or groups i d)
+pub group_at : (cells : List (ℕ × ℕ)) (groups : List CellGroup) (i : ℕ) (d : CellGroup) → AreCellGroups cells groups → i < length groups → IsGroupOfOneDataCell (cell_at_index cells i) (slice_index_or groups i d)
 unfolding AreCellGroups
 group_at [] [] i d are within = absurd (omega arith)
 group_at (cell ∷ cells) (group ∷ groups) zero d are within = are.0
@@ -130,9 +130,9 @@ same_length (cell ∷ cells) [] are = absurd are
 
 -- one group more is loaded
 pub open_more : (given now : List (Option ℕ)) (cells : List (ℕ × ℕ)) (groups : List CellGroup) (i : ℕ) (group : CellGroup) → AreCellGroups cells groups → AreDistinctCells cells → i < length groups → group ≡ slice_index_or groups i group
-    → ((cell : ℕ × ℕ) (k : ℕ) → IsCellGroup cell group → k ≢ cell.0 % 512 → slice_index_or now k None ≡ slice_index_or given k None) → AreOpen given cells i → AreOpen now cells (i + 1)
+    → ((cell : ℕ × ℕ) (k : ℕ) → IsGroupOfOneDataCell cell group → k ≢ cell.0 % 512 → slice_index_or now k None ≡ slice_index_or given k None) → AreOpen given cells i → AreOpen now cells (i + 1)
 open_more given now cells groups i group are free within is stays before = λ k from small.
-    let here : IsCellGroup (cell_at_index cells i) group = subst (IsCellGroup (cell_at_index cells i)) (sym is) (group_at cells groups i group are within) in
+    let here : IsGroupOfOneDataCell (cell_at_index cells i) group = subst (IsGroupOfOneDataCell (cell_at_index cells i)) (sym is) (group_at cells groups i group are within) in
     stays (cell_at_index cells i) ((cell_at_index cells k).0 % 512) here (free.apart i k (omega arith) small) ∙ before k (omega arith) small
 
 -- before the first
@@ -147,25 +147,25 @@ all_open given cells is = λ k from small.
     ap (λ (list : List (Option ℕ)). slice_index_or list ((cell_at_index cells k).0 % 512) None) is ∙ none_there ((cell_at_index cells k).0 % 512) None
 
 -- no cell is given twice
-pub never_twice : (given : List (Option ℕ)) (cells : List (ℕ × ℕ)) (groups : List CellGroup) (i : ℕ) (group : CellGroup) → AreCellGroups cells groups → AreWords cells → AreDistinctCells cells → i < length groups → group ≡ slice_index_or groups i group → length given ≡ 192
-    → ((cell : ℕ × ℕ) → IsCellGroup cell group → cell.1 < 2 ^ 18 → IsMemoryAddress cell.0 → length given ≡ 192 → slice_index_or given (cell.0 % 512) None ≢ None) → AreOpen given cells i → ⊥
+pub never_twice : (given : List (Option ℕ)) (cells : List (ℕ × ℕ)) (groups : List CellGroup) (i : ℕ) (group : CellGroup) → AreCellGroups cells groups → AreCellValuesWords cells → AreDistinctCells cells → i < length groups → group ≡ slice_index_or groups i group → length given ≡ 192
+    → ((cell : ℕ × ℕ) → IsGroupOfOneDataCell cell group → cell.1 < 2 ^ 18 → IsMemoryAddress cell.0 → length given ≡ 192 → slice_index_or given (cell.0 % 512) None ≢ None) → AreOpen given cells i → ⊥
 never_twice given cells groups i group are words free within is size refused before =
-    let here : IsCellGroup (cell_at_index cells i) group = subst (IsCellGroup (cell_at_index cells i)) (sym is) (group_at cells groups i group are within) in
+    let here : IsGroupOfOneDataCell (cell_at_index cells i) group = subst (IsGroupOfOneDataCell (cell_at_index cells i)) (sym is) (group_at cells groups i group are within) in
     let same = same_length cells groups are in
     let small : i < length cells = omega (arith, same) in
     refused (cell_at_index cells i) here (words i small) (free.memory i small) size (before i (omega arith) small)
 
-words_more : (cell : ℕ × ℕ) (cells : List (ℕ × ℕ)) → cell.1 < 2 ^ 18 → AreWords cells → (k : ℕ) → k < length (cell ∷ cells) → (cell_at_index (cell ∷ cells) k).1 < 2 ^ 18
+words_more : (cell : ℕ × ℕ) (cells : List (ℕ × ℕ)) → cell.1 < 2 ^ 18 → AreCellValuesWords cells → (k : ℕ) → k < length (cell ∷ cells) → (cell_at_index (cell ∷ cells) k).1 < 2 ^ 18
 words_more cell cells small words zero within = small
 words_more cell cells small words (suc k) within = words k (omega arith)
 
-words_behind : (at : ℕ) (request : AssemblyRequest) (cells : List (ℕ × ℕ)) → IsPlainRequest request → AreWords cells → AreWords (requested_cell at request ++ cells)
-words_behind at (Put (Cell (Number n))) cells plain words = words_more (at, n) cells plain words
-words_behind at (Go address) cells plain words = words
+words_behind : (at : ℕ) (request : AssemblyRequest) (cells : List (ℕ × ℕ)) → IsDataCellOrGoToAddress request → AreCellValuesWords cells → AreCellValuesWords (requested_cell at request ++ cells)
+words_behind at (PlaceItem (Cell (Number n))) cells plain words = words_more (at, n) cells plain words
+words_behind at (GoToAddress address) cells plain words = words
 words_behind at _ cells plain words = absurd plain
 
 -- the numbers of plain requests are words
-pub plain_words : (at : ℕ) (requests : List AssemblyRequest) → ArePlain requests → AreWords (requested_cells at requests)
+pub plain_words : (at : ℕ) (requests : List AssemblyRequest) → ArePlain requests → AreCellValuesWords (requested_cells at requests)
 unfolding ArePlain requested_cells
 plain_words at [] plain = λ k within. absurd (omega arith)
-plain_words at (request ∷ requests) plain = words_behind at request (requested_cells (address_after_request at request) requests) plain.0 (plain_words (address_after_request at request) requests plain.1)
+plain_words at (request ∷ requests) plain = words_behind at request (requested_cells (address_after_assembly_request at request) requests) plain.0 (plain_words (address_after_assembly_request at request) requests plain.1)

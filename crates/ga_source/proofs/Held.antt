@@ -6,20 +6,20 @@ use Rattle.std.proofs.lemmas.List.{take_all, take_more}
 use Rattle.std.proofs.lemmas.List.Folds.{list_any_at}
 use Rattle.std.proofs.lemmas.List.Elements.{All-more, All-weaker}
 use Rattle.std.specs.List.{All}
-use Rattle.ga_slots.specs.Codes.{code_of}
+use Rattle.ga_slots.specs.Codes.{code_of_opcode}
 use Rattle.ga_slots.specs.Slots.{opcode, target}
 use Rattle.ga_slots.specs.declared.op.Op.{Op}
 use Rattle.ga_slots.specs.declared.op.Op.TheVariants.{FetchP, Nop}
 use Rattle.ga_node.specs.Record.{NodeState}
 use Rattle.ga_parser.specs.declared.item.AssemblyItem.{AssemblyItem}
-use Rattle.ga_parser.specs.declared.item.AssemblyItem.TheVariants.{Opcode, Literal, Back, Ahead, Cell}
+use Rattle.ga_parser.specs.declared.item.AssemblyItem.TheVariants.{Opcode, Literal, JumpToEarlierLabel, JumpToLaterLabel, Cell}
 use Rattle.ga_source.specs.declared.group.CellGroup.{CellGroup}
 use Rattle.ga_parser.specs.declared.item.Operand.TheVariants.{Label}
 use Rattle.ga_source.specs.declared.group.PackingSpot.{PackingSpot}
-use Rattle.ga_source.specs.Reading.{first_spot_of_cell, spot_after_item, operand_value, are_equal_numbers, word_at_address, has_opcode_in_slot, jump_leads_to, is_item_at_spot, is_filled_with_nops, item_ends_cell}
+use Rattle.ga_source.specs.Reading.{first_spot_of_cell, spot_after_item, operand_value, are_equal_numbers, word_at_address, has_opcode_in_slot, jump_leads_to_address, is_item_at_spot, is_filled_with_nops, item_ends_cell}
 use Rattle.ga_source.specs.Cells.{is_address_of_cell, item_uses_cell, KeepsOtherCells}
-use Rattle.ga_source.specs.inner.{nothing, behind_all, Stand, taken, spot_in, IsFit, IsRead, takes_group, are_taken, KeepsRest, HasItem, HasRest, HoldsRest, Holds, Keeps, MayEnd, IsWordOf, IsWriting, IsLoadedGroup}
-use Rattle.ga_source.proofs.Laying.{behind-same, behind-slot, Stand-push, taken-pop, empty_reads, step_spot, last_ends}
+use Rattle.ga_source.specs.inner.{nothing, spot_after_items, AreItemsInPlace, taken, spot_of_item, AreItemsFitting, IsGroupRead, group_uses_cell, is_cell_in_groups, KeepsOtherThanMemories, HasItemInSlot, HasItemOperand, IsLiteralCellGiven, IsGivenMemoryCell, KeepsGivenCells, MayEndCell, IsWordOfItems, IsGroupBeingWritten, IsLoadedGroup}
+use Rattle.ga_source.proofs.Laying.{behind-same, behind-slot, AreItemsInPlace-push, taken-pop, empty_reads, step_spot, last_ends}
 
 -- what is left of a cell is `.`
 abbrev dots : Option ℕ → ℕ → Bool
@@ -28,19 +28,19 @@ dots word slot = (nat_lt 1 slot || has_opcode_in_slot word 1 Nop) && (nat_lt 2 s
 -- ---- an item in place
 
 has_op_by : (word slot : ℕ) (op : Op) → slot < 4 → opcode word slot ≡ op → has_opcode_in_slot (Some word) slot op ≡ true
-has_op_by word slot op l e = and_from (nat_lt slot 4) (code_of (opcode word slot) == code_of op) (lt-ltb slot 4 l) (eq-eqb (code_of (opcode word slot)) (code_of op) (ap code_of e))
+has_op_by word slot op l e = and_from (nat_lt slot 4) (code_of_opcode (opcode word slot) == code_of_opcode op) (lt-ltb slot 4 l) (eq-eqb (code_of_opcode (opcode word slot)) (code_of_opcode op) (ap code_of_opcode e))
 
-stands_in : (node : NodeState) (labels : List (Option ℕ)) (word : ℕ) (spot : PackingSpot) (item : AssemblyItem) → spot.slot < 4 → MayEnd spot.slot item → HasItem labels word spot.slot item → HasRest node labels spot item → (found : Option ℕ) → found ≡ Some word → word_at_address node spot.at ≡ found → is_item_at_spot node labels spot item ≡ true
+stands_in : (node : NodeState) (labels : List (Option ℕ)) (word : ℕ) (spot : PackingSpot) (item : AssemblyItem) → spot.slot < 4 → MayEndCell spot.slot item → HasItemInSlot labels word spot.slot item → HasItemOperand node labels spot item → (found : Option ℕ) → found ≡ Some word → word_at_address node spot.at ≡ found → is_item_at_spot node labels spot item ≡ true
 stands_in node labels word spot (Opcode op) l may has rest found e at = subst (λ (w : Option ℕ). has_opcode_in_slot w spot.slot op ≡ true) (sym (at ∙ e)) (has_op_by word spot.slot op l has)
 stands_in node labels word spot (Literal value) l may has rest found e at = and_from (has_opcode_in_slot (word_at_address node spot.at) spot.slot FetchP) (are_equal_numbers (operand_value labels value) (word_at_address node spot.p))
     (subst (λ (w : Option ℕ). has_opcode_in_slot w spot.slot FetchP ≡ true) (sym (at ∙ e)) (has_op_by word spot.slot FetchP l has)) rest
-stands_in node labels word spot (Back op label) l may has rest found e at = and_from (has_opcode_in_slot (word_at_address node spot.at) spot.slot op) (jump_leads_to (word_at_address node spot.at) spot.slot spot.p (operand_value labels (Label label)))
+stands_in node labels word spot (JumpToEarlierLabel op label) l may has rest found e at = and_from (has_opcode_in_slot (word_at_address node spot.at) spot.slot op) (jump_leads_to_address (word_at_address node spot.at) spot.slot spot.p (operand_value labels (Label label)))
     (subst (λ (w : Option ℕ). has_opcode_in_slot w spot.slot op ≡ true) (sym (at ∙ e)) (has_op_by word spot.slot op l has.0))
-    (subst (λ (w : Option ℕ). jump_leads_to w spot.slot spot.p (operand_value labels (Label label)) ≡ true) (sym (at ∙ e))
+    (subst (λ (w : Option ℕ). jump_leads_to_address w spot.slot spot.p (operand_value labels (Label label)) ≡ true) (sym (at ∙ e))
     (and_from (nat_lt spot.slot 3) (are_equal_numbers (operand_value labels (Label label)) (Some (target spot.p word spot.slot))) (lt-ltb spot.slot 3 rest.0) (has.1 spot.p rest.1)))
-stands_in node labels word spot (Ahead op label) l may has rest found e at = and_from (has_opcode_in_slot (word_at_address node spot.at) spot.slot op) (jump_leads_to (word_at_address node spot.at) spot.slot spot.p (operand_value labels (Label label)))
+stands_in node labels word spot (JumpToLaterLabel op label) l may has rest found e at = and_from (has_opcode_in_slot (word_at_address node spot.at) spot.slot op) (jump_leads_to_address (word_at_address node spot.at) spot.slot spot.p (operand_value labels (Label label)))
     (subst (λ (w : Option ℕ). has_opcode_in_slot w spot.slot op ≡ true) (sym (at ∙ e)) (has_op_by word spot.slot op l has.0))
-    (subst (λ (w : Option ℕ). jump_leads_to w spot.slot spot.p (operand_value labels (Label label)) ≡ true) (sym (at ∙ e))
+    (subst (λ (w : Option ℕ). jump_leads_to_address w spot.slot spot.p (operand_value labels (Label label)) ≡ true) (sym (at ∙ e))
     (and_from (nat_lt spot.slot 3) (are_equal_numbers (operand_value labels (Label label)) (Some (target spot.p word spot.slot))) (lt-ltb spot.slot 3 rest.0) (has.1 spot.p rest.1)))
 stands_in node labels word spot (Cell value) l may has rest found e at = and_from (spot.slot == 0) (are_equal_numbers (operand_value labels value) (word_at_address node spot.at)) (eq-eqb spot.slot 0 may)
     (subst (λ (w : Option ℕ). are_equal_numbers (operand_value labels value) w ≡ true) (sym (at ∙ e)) has)
@@ -50,51 +50,51 @@ stands_in node labels word spot (Cell value) l may has rest found e at = and_fro
 takes_cell : (spot : PackingSpot) (item : AssemblyItem) → item_uses_cell spot item (spot.at % 512) ≡ true
 takes_cell spot (Opcode op) = eq-eqb (spot.at % 512) (spot.at % 512) refl
 takes_cell spot (Literal value) = or_left (is_address_of_cell spot.at (spot.at % 512)) (is_address_of_cell spot.p (spot.at % 512)) (eq-eqb (spot.at % 512) (spot.at % 512) refl)
-takes_cell spot (Back op label) = eq-eqb (spot.at % 512) (spot.at % 512) refl
-takes_cell spot (Ahead op label) = eq-eqb (spot.at % 512) (spot.at % 512) refl
+takes_cell spot (JumpToEarlierLabel op label) = eq-eqb (spot.at % 512) (spot.at % 512) refl
+takes_cell spot (JumpToLaterLabel op label) = eq-eqb (spot.at % 512) (spot.at % 512) refl
 takes_cell spot (Cell value) = eq-eqb (spot.at % 512) (spot.at % 512) refl
 
-takes_rest : (given : List (Option ℕ)) (spot : PackingSpot) (item : AssemblyItem) → ((cell : ℕ) → item_uses_cell spot item cell ≡ true → Holds given cell) → HoldsRest given spot item
+takes_rest : (given : List (Option ℕ)) (spot : PackingSpot) (item : AssemblyItem) → ((cell : ℕ) → item_uses_cell spot item cell ≡ true → IsGivenMemoryCell given cell) → IsLiteralCellGiven given spot item
 takes_rest given spot (Opcode op) held = tt
 takes_rest given spot (Literal value) held = held (spot.p % 512) (or_right (is_address_of_cell spot.at (spot.p % 512)) (is_address_of_cell spot.p (spot.p % 512)) (eq-eqb (spot.p % 512) (spot.p % 512) refl))
-takes_rest given spot (Back op label) held = tt
-takes_rest given spot (Ahead op label) held = tt
+takes_rest given spot (JumpToEarlierLabel op label) held = tt
+takes_rest given spot (JumpToLaterLabel op label) held = tt
 takes_rest given spot (Cell value) held = tt
 
 -- what an item takes is its cell and that of its literal
-holds_taken : (given : List (Option ℕ)) (spot : PackingSpot) (item : AssemblyItem) → Holds given (spot.at % 512) → HoldsRest given spot item → (cell : ℕ) → item_uses_cell spot item cell ≡ true → Holds given cell
-holds_taken given spot (Opcode op) at rest cell h = subst (Holds given) (eqb-true (spot.at % 512) cell h) at
+holds_taken : (given : List (Option ℕ)) (spot : PackingSpot) (item : AssemblyItem) → IsGivenMemoryCell given (spot.at % 512) → IsLiteralCellGiven given spot item → (cell : ℕ) → item_uses_cell spot item cell ≡ true → IsGivenMemoryCell given cell
+holds_taken given spot (Opcode op) at rest cell h = subst (IsGivenMemoryCell given) (eqb-true (spot.at % 512) cell h) at
 holds_taken given spot (Literal value) at rest cell h = elim (or_cases (is_address_of_cell spot.at cell) (is_address_of_cell spot.p cell) h) [
-  | inl e ↦ subst (Holds given) (eqb-true (spot.at % 512) cell e) at
-  | inr e ↦ subst (Holds given) (eqb-true (spot.p % 512) cell e) rest
+  | inl e ↦ subst (IsGivenMemoryCell given) (eqb-true (spot.at % 512) cell e) at
+  | inr e ↦ subst (IsGivenMemoryCell given) (eqb-true (spot.p % 512) cell e) rest
 ]
-holds_taken given spot (Back op label) at rest cell h = subst (Holds given) (eqb-true (spot.at % 512) cell h) at
-holds_taken given spot (Ahead op label) at rest cell h = subst (Holds given) (eqb-true (spot.at % 512) cell h) at
-holds_taken given spot (Cell value) at rest cell h = subst (Holds given) (eqb-true (spot.at % 512) cell h) at
+holds_taken given spot (JumpToEarlierLabel op label) at rest cell h = subst (IsGivenMemoryCell given) (eqb-true (spot.at % 512) cell h) at
+holds_taken given spot (JumpToLaterLabel op label) at rest cell h = subst (IsGivenMemoryCell given) (eqb-true (spot.at % 512) cell h) at
+holds_taken given spot (Cell value) at rest cell h = subst (IsGivenMemoryCell given) (eqb-true (spot.at % 512) cell h) at
 
 -- after some items the cell is one that they take, or nothing of it is read
-end_held : (given : List (Option ℕ)) (spot : PackingSpot) (items : List AssemblyItem) → (spot.slot ≡ 0) ⊎ Holds given (spot.at % 512) → ((cell : ℕ) → taken spot items cell ≡ true → Holds given cell) → ((behind_all spot items).slot ≡ 0) ⊎ Holds given ((behind_all spot items).at % 512)
-unfolding taken behind_all
+end_held : (given : List (Option ℕ)) (spot : PackingSpot) (items : List AssemblyItem) → (spot.slot ≡ 0) ⊎ IsGivenMemoryCell given (spot.at % 512) → ((cell : ℕ) → taken spot items cell ≡ true → IsGivenMemoryCell given cell) → ((spot_after_items spot items).slot ≡ 0) ⊎ IsGivenMemoryCell given ((spot_after_items spot items).at % 512)
+unfolding taken spot_after_items
 end_held given spot [] at held = at
 end_held given spot (item ∷ rest) at held = end_held given (spot_after_item spot item) rest
     (elim (cases_eq (spot_after_item spot item).slot 0) [
       | inl e ↦ inl e
-      | inr other ↦ inr (subst (λ (a : ℕ). Holds given (a % 512)) (sym (behind-same spot item other)) (held (spot.at % 512) (or_left (item_uses_cell spot item (spot.at % 512)) (taken (spot_after_item spot item) rest (spot.at % 512)) (takes_cell spot item))))
+      | inr other ↦ inr (subst (λ (a : ℕ). IsGivenMemoryCell given (a % 512)) (sym (behind-same spot item other)) (held (spot.at % 512) (or_left (item_uses_cell spot item (spot.at % 512)) (taken (spot_after_item spot item) rest (spot.at % 512)) (takes_cell spot item))))
     ])
     (λ cell e. held cell (or_right (item_uses_cell spot item cell) (taken (spot_after_item spot item) rest cell) e))
 
-module _ (before after : NodeState) (given later : List (Option ℕ)) (keeps : Keeps before given after later) where
-  stands_stays : (labels : List (Option ℕ)) (spot : PackingSpot) (item : AssemblyItem) → Holds given (spot.at % 512) → HoldsRest given spot item → is_item_at_spot after labels spot item ≡ is_item_at_spot before labels spot item
+module _ (before after : NodeState) (given later : List (Option ℕ)) (keeps : KeepsGivenCells before given after later) where
+  stands_stays : (labels : List (Option ℕ)) (spot : PackingSpot) (item : AssemblyItem) → IsGivenMemoryCell given (spot.at % 512) → IsLiteralCellGiven given spot item → is_item_at_spot after labels spot item ≡ is_item_at_spot before labels spot item
   stands_stays labels spot (Opcode op) at rest = ap (λ (w : Option ℕ). has_opcode_in_slot w spot.slot op) ((keeps spot.at at).0)
   stands_stays labels spot (Literal value) at rest =
       ap (λ (w : Option ℕ). has_opcode_in_slot w spot.slot FetchP && are_equal_numbers (operand_value labels value) (word_at_address after spot.p)) ((keeps spot.at at).0)
       ∙ ap (λ (w : Option ℕ). has_opcode_in_slot (word_at_address before spot.at) spot.slot FetchP && are_equal_numbers (operand_value labels value) w) ((keeps spot.p rest).0)
-  stands_stays labels spot (Back op label) at rest = ap (λ (w : Option ℕ). has_opcode_in_slot w spot.slot op && jump_leads_to w spot.slot spot.p (operand_value labels (Label label))) ((keeps spot.at at).0)
-  stands_stays labels spot (Ahead op label) at rest = ap (λ (w : Option ℕ). has_opcode_in_slot w spot.slot op && jump_leads_to w spot.slot spot.p (operand_value labels (Label label))) ((keeps spot.at at).0)
+  stands_stays labels spot (JumpToEarlierLabel op label) at rest = ap (λ (w : Option ℕ). has_opcode_in_slot w spot.slot op && jump_leads_to_address w spot.slot spot.p (operand_value labels (Label label))) ((keeps spot.at at).0)
+  stands_stays labels spot (JumpToLaterLabel op label) at rest = ap (λ (w : Option ℕ). has_opcode_in_slot w spot.slot op && jump_leads_to_address w spot.slot spot.p (operand_value labels (Label label))) ((keeps spot.at at).0)
   stands_stays labels spot (Cell value) at rest = ap (λ (w : Option ℕ). spot.slot == 0 && are_equal_numbers (operand_value labels value) w) ((keeps spot.at at).0)
 
-  pub Stand_stays : (labels : List (Option ℕ)) (spot : PackingSpot) (items : List AssemblyItem) → ((cell : ℕ) → taken spot items cell ≡ true → Holds given cell) → Stand before labels spot items → Stand after labels spot items
-  unfolding Stand taken
+  pub Stand_stays : (labels : List (Option ℕ)) (spot : PackingSpot) (items : List AssemblyItem) → ((cell : ℕ) → taken spot items cell ≡ true → IsGivenMemoryCell given cell) → AreItemsInPlace before labels spot items → AreItemsInPlace after labels spot items
+  unfolding AreItemsInPlace taken
   Stand_stays labels spot [] held h = tt
   Stand_stays labels spot (item ∷ rest) held h =
       let here = λ (cell : ℕ) (e : item_uses_cell spot item cell ≡ true). held cell (or_left (item_uses_cell spot item cell) (taken (spot_after_item spot item) rest cell) e) in (
@@ -103,12 +103,12 @@ module _ (before after : NodeState) (given later : List (Option ℕ)) (keeps : K
       )
 
   -- what was given, by its number
-  pub holds_stays : (cell : ℕ) → Holds given cell → Holds later cell
+  pub holds_stays : (cell : ℕ) → IsGivenMemoryCell given cell → IsGivenMemoryCell later cell
   holds_stays cell held =
       let small : cell % 512 ≡ cell = elim held.in_memory [ inl l ↦ omega arith | inr h ↦ (let low : 128 ≤ cell = h.0 in let high : cell < 192 = h.1 in omega arith) ] in
-      subst (Holds later) small ((keeps cell (subst (Holds given) (sym small) held)).1)
+      subst (IsGivenMemoryCell later) small ((keeps cell (subst (IsGivenMemoryCell given) (sym small) held)).1)
 
-  filled_stays : (spot : PackingSpot) → (spot.slot ≡ 0) ⊎ Holds given (spot.at % 512) → is_filled_with_nops before spot ≡ true → is_filled_with_nops after spot ≡ true
+  filled_stays : (spot : PackingSpot) → (spot.slot ≡ 0) ⊎ IsGivenMemoryCell given (spot.at % 512) → is_filled_with_nops before spot ≡ true → is_filled_with_nops after spot ≡ true
   filled_stays spot where_is h = elim where_is [
     | inl e ↦ or_left (spot.slot == 0) (dots (word_at_address after spot.at) spot.slot) (eq-eqb spot.slot 0 e)
     | inr held ↦ ap (λ (w : Option ℕ). spot.slot == 0 || dots w spot.slot) ((keeps spot.at held).0) ∙ h
@@ -120,16 +120,16 @@ module _ (before after : NodeState) (given later : List (Option ℕ)) (keeps : K
       whole = loaded.read.whole;
       cell = record {
         items_stand = Stand_stays labels (first_spot_of_cell group.address) group.items.items loaded.held loaded.read.cell.items_stand;
-        filled = filled_stays (behind_all (first_spot_of_cell group.address) group.items.items) (end_held given (first_spot_of_cell group.address) group.items.items (inl refl) loaded.held) loaded.read.cell.filled;
+        filled = filled_stays (spot_after_items (first_spot_of_cell group.address) group.items.items) (end_held given (first_spot_of_cell group.address) group.items.items (inl refl) loaded.held) loaded.read.cell.filled;
       };
     };
     held = λ cell h. holds_stays cell (loaded.held cell h);
   }
 
-pub keeps_none : (node : NodeState) (given : List (Option ℕ)) → Keeps node given node given
+pub keeps_none : (node : NodeState) (given : List (Option ℕ)) → KeepsGivenCells node given node given
 keeps_none node given address held = (refl, held)
 
-pub keeps_both : (first second third : NodeState) (a b c : List (Option ℕ)) → Keeps first a second b → Keeps second b third c → Keeps first a third c
+pub keeps_both : (first second third : NodeState) (a b c : List (Option ℕ)) → KeepsGivenCells first a second b → KeepsGivenCells second b third c → KeepsGivenCells first a third c
 keeps_both first second third a b c one two address held =
     let before = one address held in
     let behind_it = two address before.1 in
@@ -157,32 +157,32 @@ elsewhere_less named less first second sub one = record {
 
 -- ---- a whole group
 
-pub taken_at : (spot : PackingSpot) (items : List AssemblyItem) (i cell : ℕ) → i < length items → item_uses_cell (behind_all spot (take i items)) (slice_index_or items i nothing) cell ≡ true → taken spot items cell ≡ true
-unfolding taken behind_all
+pub taken_at : (spot : PackingSpot) (items : List AssemblyItem) (i cell : ℕ) → i < length items → item_uses_cell (spot_after_items spot (take i items)) (slice_index_or items i nothing) cell ≡ true → taken spot items cell ≡ true
+unfolding taken spot_after_items
 taken_at spot [] i cell l h = absurd (omega arith)
 taken_at spot (first ∷ rest) zero cell l h = or_left (item_uses_cell spot first cell) (taken (spot_after_item spot first) rest cell) h
 taken_at spot (first ∷ rest) (suc i) cell l h = or_right (item_uses_cell spot first cell) (taken (spot_after_item spot first) rest cell) (taken_at (spot_after_item spot first) rest i cell (omega arith) h)
 
-pub group_at : (groups : List CellGroup) (i cell : ℕ) (none : CellGroup) → i < length groups → takes_group cell (slice_index_or groups i none) ≡ true → are_taken groups cell ≡ true
-group_at groups i cell none l h = list_any_at (takes_group cell) groups i none l h
+pub group_at : (groups : List CellGroup) (i cell : ℕ) (none : CellGroup) → i < length groups → group_uses_cell cell (slice_index_or groups i none) ≡ true → is_cell_in_groups groups cell ≡ true
+group_at groups i cell none l h = list_any_at (group_uses_cell cell) groups i none l h
 
 -- one more item of the group is in place
-pub stand_more : (node : NodeState) (labels : List (Option ℕ)) (address word : ℕ) (items : List AssemblyItem) (i : ℕ) → i < length items → length items ≤ 4 → IsFit labels address items → IsWordOf labels items word → word_at_address node address ≡ Some word → HasRest node labels (spot_in address items i) (slice_index_or items i nothing) → Stand node labels (first_spot_of_cell address) (take i items) → Stand node labels (first_spot_of_cell address) (take (i + 1) items)
+pub stand_more : (node : NodeState) (labels : List (Option ℕ)) (address word : ℕ) (items : List AssemblyItem) (i : ℕ) → i < length items → length items ≤ 4 → AreItemsFitting labels address items → IsWordOfItems labels items word → word_at_address node address ≡ Some word → HasItemOperand node labels (spot_of_item address items i) (slice_index_or items i nothing) → AreItemsInPlace node labels (first_spot_of_cell address) (take i items) → AreItemsInPlace node labels (first_spot_of_cell address) (take (i + 1) items)
 stand_more node labels address word items i l few fit is_word at rest h =
-    let spot = spot_in address items i in
+    let spot = spot_of_item address items i in
     let slot : spot.slot ≡ i = fit.slots i l in
-    subst (Stand node labels (first_spot_of_cell address)) (sym (take_more items i nothing l)) (Stand-push node labels (first_spot_of_cell address) (take i items) (slice_index_or items i nothing) h
+    subst (AreItemsInPlace node labels (first_spot_of_cell address)) (sym (take_more items i nothing l)) (AreItemsInPlace-push node labels (first_spot_of_cell address) (take i items) (slice_index_or items i nothing) h
     (stands_in node labels word spot (slice_index_or items i nothing) (omega arith)
-    (subst (λ (n : ℕ). MayEnd n (slice_index_or items i nothing)) (sym slot) (last_ends labels address items fit i l))
-    (subst (λ (n : ℕ). HasItem labels word n (slice_index_or items i nothing)) (sym slot) (is_word.has i l)) rest (Some word) refl (ap (word_at_address node) (fit.cells i l) ∙ at)))
+    (subst (λ (n : ℕ). MayEndCell n (slice_index_or items i nothing)) (sym slot) (last_ends labels address items fit i l))
+    (subst (λ (n : ℕ). HasItemInSlot labels word n (slice_index_or items i nothing)) (sym slot) (is_word.has i l)) rest (Some word) refl (ap (word_at_address node) (fit.cells i l) ∙ at)))
 
 -- its cells are given
-pub held_more : (labels given : List (Option ℕ)) (address : ℕ) (items : List AssemblyItem) (i : ℕ) → i < length items → IsFit labels address items → Holds given (address % 512) → HoldsRest given (spot_in address items i) (slice_index_or items i nothing) → ((cell : ℕ) → taken (first_spot_of_cell address) (take i items) cell ≡ true → Holds given cell) → (cell : ℕ) → taken (first_spot_of_cell address) (take (i + 1) items) cell ≡ true → Holds given cell
+pub held_more : (labels given : List (Option ℕ)) (address : ℕ) (items : List AssemblyItem) (i : ℕ) → i < length items → AreItemsFitting labels address items → IsGivenMemoryCell given (address % 512) → IsLiteralCellGiven given (spot_of_item address items i) (slice_index_or items i nothing) → ((cell : ℕ) → taken (first_spot_of_cell address) (take i items) cell ≡ true → IsGivenMemoryCell given cell) → (cell : ℕ) → taken (first_spot_of_cell address) (take (i + 1) items) cell ≡ true → IsGivenMemoryCell given cell
 held_more labels given address items i l fit at rest held cell h =
     let item = slice_index_or items i nothing in
     elim (taken-pop (first_spot_of_cell address) (take i items) item cell (subst (λ (list : List AssemblyItem). taken (first_spot_of_cell address) list cell ≡ true) (take_more items i nothing l) h)) [
       | inl a ↦ held cell a
-      | inr b ↦ holds_taken given (spot_in address items i) item (subst (λ (a : ℕ). Holds given (a % 512)) (sym (fit.cells i l)) at) rest cell b
+      | inr b ↦ holds_taken given (spot_of_item address items i) item (subst (λ (a : ℕ). IsGivenMemoryCell given (a % 512)) (sym (fit.cells i l)) at) rest cell b
     ]
 
 dot_by : (node : NodeState) (address word k : ℕ) → word_at_address node address ≡ Some word → k < 4 → opcode word k ≡ Nop → has_opcode_in_slot (word_at_address node address) k Nop ≡ true
@@ -198,11 +198,11 @@ dots_by node address word size at some few nops =
     (elim (cases_lt 2 size) [ inl l ↦ or_left (nat_lt 2 size) (has_opcode_in_slot w 2 Nop) (lt-ltb 2 size l) | inr l ↦ or_right (nat_lt 2 size) (has_opcode_in_slot w 2 Nop) (dot_by node address word 2 at (omega arith) (nops 2 l (omega arith))) ]))
     (dot_by node address word 3 at (omega arith) (nops 3 (omega arith) (omega arith)))
 
-filled_at : (node : NodeState) (labels : List (Option ℕ)) (address word n : ℕ) (items : List AssemblyItem) (spot : PackingSpot) → length items ≡ n + 1 → length items ≤ 4 → IsFit labels address items → IsWordOf labels items word → word_at_address node address ≡ Some word → spot ≡ spot_after_item (spot_in address items n) (slice_index_or items n nothing) → is_filled_with_nops node spot ≡ true
+filled_at : (node : NodeState) (labels : List (Option ℕ)) (address word n : ℕ) (items : List AssemblyItem) (spot : PackingSpot) → length items ≡ n + 1 → length items ≤ 4 → AreItemsFitting labels address items → IsWordOfItems labels items word → word_at_address node address ≡ Some word → spot ≡ spot_after_item (spot_of_item address items n) (slice_index_or items n nothing) → is_filled_with_nops node spot ≡ true
 filled_at node labels address word n items spot size few fit is_word at is_spot = elim (cases_eq spot.slot 0) [
   | inl e ↦ or_left (spot.slot == 0) (dots (word_at_address node spot.at) spot.slot) (eq-eqb spot.slot 0 e)
   | inr other ↦
-      let last = spot_in address items n in
+      let last = spot_of_item address items n in
       let item = slice_index_or items n nothing in
       let l : n < length items = omega arith in
       let open_cell : (spot_after_item last item).slot ≢ 0 = (λ e. other (ap (λ (s : PackingSpot). s.slot) is_spot ∙ e)) in
@@ -219,7 +219,7 @@ filled_at node labels address word n items spot size few fit is_word at is_spot 
 ]
 
 -- the group is read if each of its items is in place
-pub group_loaded : (node : NodeState) (labels given : List (Option ℕ)) (group : CellGroup) (word : ℕ) → group.broken ≡ None → 0 < length group.items.items → length group.items.items ≤ 4 → IsFit labels group.address group.items.items → IsWordOf labels group.items.items word → word_at_address node group.address ≡ Some word → Stand node labels (first_spot_of_cell group.address) group.items.items → ((cell : ℕ) → taken (first_spot_of_cell group.address) group.items.items cell ≡ true → Holds given cell) → IsLoadedGroup node labels given group
+pub group_loaded : (node : NodeState) (labels given : List (Option ℕ)) (group : CellGroup) (word : ℕ) → group.broken ≡ None → 0 < length group.items.items → length group.items.items ≤ 4 → AreItemsFitting labels group.address group.items.items → IsWordOfItems labels group.items.items word → word_at_address node group.address ≡ Some word → AreItemsInPlace node labels (first_spot_of_cell group.address) group.items.items → ((cell : ℕ) → taken (first_spot_of_cell group.address) group.items.items cell ≡ true → IsGivenMemoryCell given cell) → IsLoadedGroup node labels given group
 group_loaded node labels given group word whole some few fit is_word at h held =
     let items = group.items.items in
     let n = length items - 1 in
@@ -230,8 +230,8 @@ group_loaded node labels given group word whole some few fit is_word at h held =
         whole = whole;
         cell = record {
           items_stand = h;
-          filled = filled_at node labels group.address word n items (behind_all (first_spot_of_cell group.address) items) size few fit is_word at
-              (ap (behind_all (first_spot_of_cell group.address)) (sym (take_all (n + 1) items (omega arith))) ∙ step_spot group.address items n l);
+          filled = filled_at node labels group.address word n items (spot_after_items (first_spot_of_cell group.address) items) size few fit is_word at
+              (ap (spot_after_items (first_spot_of_cell group.address)) (sym (take_all (n + 1) items (omega arith))) ∙ step_spot group.address items n l);
         };
       };
       held = held;
@@ -247,14 +247,14 @@ empty_loaded node labels given group whole empty = record {
 
 -- ---- a group that is being written
 
-pub rest_both : (first second third : NodeState) → KeepsRest first second → KeepsRest second third → KeepsRest first third
+pub rest_both : (first second third : NodeState) → KeepsOtherThanMemories first second → KeepsOtherThanMemories second third → KeepsOtherThanMemories first third
 rest_both first second third one two = two ∙ ap (λ (node : NodeState). record node { ram = third.ram; rom = third.rom }) one
 
 takes_own : (spot : PackingSpot) (item : AssemblyItem) (cell : ℕ) → is_address_of_cell spot.at cell ≡ true → item_uses_cell spot item cell ≡ true
 takes_own spot (Opcode op) cell h = h
 takes_own spot (Literal value) cell h = or_left (is_address_of_cell spot.at cell) (is_address_of_cell spot.p cell) h
-takes_own spot (Back op label) cell h = h
-takes_own spot (Ahead op label) cell h = h
+takes_own spot (JumpToEarlierLabel op label) cell h = h
+takes_own spot (JumpToLaterLabel op label) cell h = h
 takes_own spot (Cell value) cell h = h
 
 own_cell : (address : ℕ) (items : List AssemblyItem) (cell : ℕ) → 0 < length items → is_address_of_cell address cell ≡ true → taken (first_spot_of_cell address) items cell ≡ true
@@ -262,12 +262,12 @@ unfolding taken
 own_cell address [] cell some h = absurd (omega arith)
 own_cell address (first ∷ rest) cell some h = or_left (item_uses_cell (first_spot_of_cell address) first cell) (taken (spot_after_item (first_spot_of_cell address) first) rest cell) (takes_own (first_spot_of_cell address) first cell h)
 
-pub written_first : (before node : NodeState) (given later labels : List (Option ℕ)) (group : CellGroup) (word : ℕ) (spot : PackingSpot) → 0 < length group.items.items → IsWordOf labels group.items.items word → KeepsRest before node → KeepsOtherCells (is_address_of_cell group.address) before node → word_at_address node group.address ≡ Some word → Holds later (group.address % 512) → Keeps before given node later → spot ≡ first_spot_of_cell group.address → IsWriting before given node later labels group spot 0
-unfolding behind_all Stand taken
+pub written_first : (before node : NodeState) (given later labels : List (Option ℕ)) (group : CellGroup) (word : ℕ) (spot : PackingSpot) → 0 < length group.items.items → IsWordOfItems labels group.items.items word → KeepsOtherThanMemories before node → KeepsOtherCells (is_address_of_cell group.address) before node → word_at_address node group.address ≡ Some word → IsGivenMemoryCell later (group.address % 512) → KeepsGivenCells before given node later → spot ≡ first_spot_of_cell group.address → IsGroupBeingWritten before given node later labels group spot 0
+unfolding spot_after_items AreItemsInPlace taken
 written_first before node given later labels group word spot some is_word rest elsewhere stands_there held kept spot_is = record {
   where_is = spot_is;
   rest = rest;
-  elsewhere = elsewhere_less (λ (cell : ℕ). takes_group cell group) (is_address_of_cell group.address) before node (λ cell h. own_cell group.address group.items.items cell some h) elsewhere;
+  elsewhere = elsewhere_less (λ (cell : ℕ). group_uses_cell cell group) (is_address_of_cell group.address) before node (λ cell h. own_cell group.address group.items.items cell some h) elsewhere;
   kept = kept;
   has_word = record { word = word; is_word = is_word; in_cell = stands_there };
   held = held;
@@ -275,55 +275,55 @@ written_first before node given later labels group word spot some is_word rest e
   cells = λ cell h. absurd (true≢false (sym h));
 }
 
-pub written_more : (before node next : NodeState) (given later given_next labels : List (Option ℕ)) (group : CellGroup) (spot spot_next : PackingSpot) (i : ℕ) → IsWriting before given node later labels group spot i → i < length group.items.items → length group.items.items ≤ 4 → IsFit labels group.address group.items.items → KeepsRest node next → KeepsOtherCells (item_uses_cell spot (slice_index_or group.items.items i nothing)) node next → HasRest next labels spot (slice_index_or group.items.items i nothing) → HoldsRest given_next spot (slice_index_or group.items.items i nothing) → Keeps node later next given_next → spot_next ≡ spot_after_item spot (slice_index_or group.items.items i nothing) → IsWriting before given next given_next labels group spot_next (i + 1)
+pub written_more : (before node next : NodeState) (given later given_next labels : List (Option ℕ)) (group : CellGroup) (spot spot_next : PackingSpot) (i : ℕ) → IsGroupBeingWritten before given node later labels group spot i → i < length group.items.items → length group.items.items ≤ 4 → AreItemsFitting labels group.address group.items.items → KeepsOtherThanMemories node next → KeepsOtherCells (item_uses_cell spot (slice_index_or group.items.items i nothing)) node next → HasItemOperand next labels spot (slice_index_or group.items.items i nothing) → IsLiteralCellGiven given_next spot (slice_index_or group.items.items i nothing) → KeepsGivenCells node later next given_next → spot_next ≡ spot_after_item spot (slice_index_or group.items.items i nothing) → IsGroupBeingWritten before given next given_next labels group spot_next (i + 1)
 written_more before node next given later given_next labels group spot spot_next i w l few fit rest elsewhere has held kept is_next =
     let items = group.items.items in
     let item = slice_index_or items i nothing in
     let here = w.where_is in
     let cell_word : word_at_address next group.address ≡ Some w.has_word.word = (kept group.address w.held).0 ∙ w.has_word.in_cell in
-    let cell_held : Holds given_next (group.address % 512) = (kept group.address w.held).1 in
+    let cell_held : IsGivenMemoryCell given_next (group.address % 512) = (kept group.address w.held).1 in
     record {
       where_is = is_next ∙ (ap (λ (s : PackingSpot). spot_after_item s item) here ∙ sym (step_spot group.address items i l));
       rest = rest_both before node next w.rest rest;
-      elsewhere = elsewhere_both (λ (cell : ℕ). takes_group cell group) (item_uses_cell spot item) before node next (λ cell h. taken_at (first_spot_of_cell group.address) items i cell l (subst (λ (s : PackingSpot). item_uses_cell s item cell ≡ true) here h)) w.elsewhere elsewhere;
+      elsewhere = elsewhere_both (λ (cell : ℕ). group_uses_cell cell group) (item_uses_cell spot item) before node next (λ cell h. taken_at (first_spot_of_cell group.address) items i cell l (subst (λ (s : PackingSpot). item_uses_cell s item cell ≡ true) here h)) w.elsewhere elsewhere;
       kept = keeps_both before node next given later given_next w.kept kept;
       has_word = record { word = w.has_word.word; is_word = w.has_word.is_word; in_cell = cell_word };
       held = cell_held;
-      so_far = stand_more next labels group.address w.has_word.word items i l few fit w.has_word.is_word cell_word (subst (λ (s : PackingSpot). HasRest next labels s item) here has)
+      so_far = stand_more next labels group.address w.has_word.word items i l few fit w.has_word.is_word cell_word (subst (λ (s : PackingSpot). HasItemOperand next labels s item) here has)
           (Stand_stays node next later given_next kept labels (first_spot_of_cell group.address) (take i items) w.cells w.so_far);
-      cells = held_more labels given_next group.address items i l fit cell_held (subst (λ (s : PackingSpot). HoldsRest given_next s item) here held)
+      cells = held_more labels given_next group.address items i l fit cell_held (subst (λ (s : PackingSpot). IsLiteralCellGiven given_next s item) here held)
           (λ cell h. holds_stays node next later given_next kept cell (w.cells cell h));
     }
 
 -- the same with the item under another name
-pub written_step : (before node next : NodeState) (given later given_next labels : List (Option ℕ)) (group : CellGroup) (spot spot_next : PackingSpot) (i : ℕ) (item : AssemblyItem) → item ≡ slice_index_or group.items.items i nothing → IsWriting before given node later labels group spot i → i < length group.items.items → length group.items.items ≤ 4 → IsFit labels group.address group.items.items → KeepsRest node next → KeepsOtherCells (item_uses_cell spot item) node next → HasRest next labels spot item → HoldsRest given_next spot item → Keeps node later next given_next → spot_next ≡ spot_after_item spot item → IsWriting before given next given_next labels group spot_next (i + 1)
+pub written_step : (before node next : NodeState) (given later given_next labels : List (Option ℕ)) (group : CellGroup) (spot spot_next : PackingSpot) (i : ℕ) (item : AssemblyItem) → item ≡ slice_index_or group.items.items i nothing → IsGroupBeingWritten before given node later labels group spot i → i < length group.items.items → length group.items.items ≤ 4 → AreItemsFitting labels group.address group.items.items → KeepsOtherThanMemories node next → KeepsOtherCells (item_uses_cell spot item) node next → HasItemOperand next labels spot item → IsLiteralCellGiven given_next spot item → KeepsGivenCells node later next given_next → spot_next ≡ spot_after_item spot item → IsGroupBeingWritten before given next given_next labels group spot_next (i + 1)
 written_step before node next given later given_next labels group spot spot_next i item is_item_request w l few fit rest elsewhere has held kept is_next =
     written_more before node next given later given_next labels group spot spot_next i w l few fit rest
     (subst (λ (one : AssemblyItem). KeepsOtherCells (item_uses_cell spot one) node next) is_item_request elsewhere)
-    (subst (λ (one : AssemblyItem). HasRest next labels spot one) is_item_request has)
-    (subst (λ (one : AssemblyItem). HoldsRest given_next spot one) is_item_request held)
+    (subst (λ (one : AssemblyItem). HasItemOperand next labels spot one) is_item_request has)
+    (subst (λ (one : AssemblyItem). IsLiteralCellGiven given_next spot one) is_item_request held)
     kept (is_next ∙ ap (λ (one : AssemblyItem). spot_after_item spot one) is_item_request)
 
-pub written_last : (before node : NodeState) (given later labels : List (Option ℕ)) (group : CellGroup) (spot : PackingSpot) (i : ℕ) → IsWriting before given node later labels group spot i → length group.items.items ≤ i → 0 < length group.items.items → length group.items.items ≤ 4 → IsFit labels group.address group.items.items → group.broken ≡ None → IsLoadedGroup node labels later group
+pub written_last : (before node : NodeState) (given later labels : List (Option ℕ)) (group : CellGroup) (spot : PackingSpot) (i : ℕ) → IsGroupBeingWritten before given node later labels group spot i → length group.items.items ≤ i → 0 < length group.items.items → length group.items.items ≤ 4 → AreItemsFitting labels group.address group.items.items → group.broken ≡ None → IsLoadedGroup node labels later group
 written_last before node given later labels group spot i w all some few fit whole =
     let items = group.items.items in
     let same = take_all i items all in
     group_loaded node labels later group w.has_word.word whole some few fit w.has_word.is_word w.has_word.in_cell
-    (subst (Stand node labels (first_spot_of_cell group.address)) same w.so_far)
+    (subst (AreItemsInPlace node labels (first_spot_of_cell group.address)) same w.so_far)
     (λ cell h. w.cells cell (subst (λ (list : List AssemblyItem). taken (first_spot_of_cell group.address) list cell ≡ true) (sym same) h))
 
-pub slot_there : (before node : NodeState) (given later labels : List (Option ℕ)) (group : CellGroup) (spot : PackingSpot) (i : ℕ) → IsWriting before given node later labels group spot i → i < length group.items.items → length group.items.items ≤ 4 → IsFit labels group.address group.items.items → spot.slot < 4
+pub slot_there : (before node : NodeState) (given later labels : List (Option ℕ)) (group : CellGroup) (spot : PackingSpot) (i : ℕ) → IsGroupBeingWritten before given node later labels group spot i → i < length group.items.items → length group.items.items ≤ 4 → AreItemsFitting labels group.address group.items.items → spot.slot < 4
 slot_there before node given later labels group spot i w l few fit =
     let slot : spot.slot ≡ i = ap (λ (s : PackingSpot). s.slot) w.where_is ∙ fit.slots i l in omega arith
 
 -- the groups so far and one more
-pub loaded_more : (before after : NodeState) (given later labels : List (Option ℕ)) (groups : List CellGroup) (i : ℕ) (none : CellGroup) → i < length groups → Keeps before given after later → All (IsLoadedGroup before labels given) (take i groups) → IsLoadedGroup after labels later (slice_index_or groups i none) → All (IsLoadedGroup after labels later) (take (i + 1) groups)
+pub loaded_more : (before after : NodeState) (given later labels : List (Option ℕ)) (groups : List CellGroup) (i : ℕ) (none : CellGroup) → i < length groups → KeepsGivenCells before given after later → All (IsLoadedGroup before labels given) (take i groups) → IsLoadedGroup after labels later (slice_index_or groups i none) → All (IsLoadedGroup after labels later) (take (i + 1) groups)
 loaded_more before after given later labels groups i none l kept all one =
     All-more (IsLoadedGroup after labels later) groups i none l
     (All-weaker (IsLoadedGroup before labels given) (IsLoadedGroup after labels later) (λ g h. loaded_stays before after given later kept labels g h) (take i groups) all) one
 
-pub elsewhere_more : (first second third : NodeState) (groups : List CellGroup) (i : ℕ) (none : CellGroup) → i < length groups → KeepsOtherCells (are_taken groups) first second → KeepsOtherCells (λ (cell : ℕ). takes_group cell (slice_index_or groups i none)) second third → KeepsOtherCells (are_taken groups) first third
-elsewhere_more first second third groups i none l one two = elsewhere_both (are_taken groups) (λ (cell : ℕ). takes_group cell (slice_index_or groups i none)) first second third (λ cell h. group_at groups i cell none l h) one two
+pub elsewhere_more : (first second third : NodeState) (groups : List CellGroup) (i : ℕ) (none : CellGroup) → i < length groups → KeepsOtherCells (is_cell_in_groups groups) first second → KeepsOtherCells (λ (cell : ℕ). group_uses_cell cell (slice_index_or groups i none)) second third → KeepsOtherCells (is_cell_in_groups groups) first third
+elsewhere_more first second third groups i none l one two = elsewhere_both (is_cell_in_groups groups) (λ (cell : ℕ). group_uses_cell cell (slice_index_or groups i none)) first second third (λ cell h. group_at groups i cell none l h) one two
 
-pub all_read : (node : NodeState) (labels given : List (Option ℕ)) (groups : List CellGroup) (i : ℕ) → length groups ≤ i → All (IsLoadedGroup node labels given) (take i groups) → All (IsRead node labels) groups
-all_read node labels given groups i all h = All-weaker (IsLoadedGroup node labels given) (IsRead node labels) (λ g loaded. loaded.read) groups (subst (All (IsLoadedGroup node labels given)) (take_all i groups all) h)
+pub all_read : (node : NodeState) (labels given : List (Option ℕ)) (groups : List CellGroup) (i : ℕ) → length groups ≤ i → All (IsLoadedGroup node labels given) (take i groups) → All (IsGroupRead node labels) groups
+all_read node labels given groups i all h = All-weaker (IsLoadedGroup node labels given) (IsGroupRead node labels) (λ g loaded. loaded.read) groups (subst (All (IsLoadedGroup node labels given)) (take_all i groups all) h)

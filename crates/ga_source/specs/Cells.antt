@@ -7,7 +7,7 @@ use Rattle.ga_grid.specs.Chip.{node_at}
 use Rattle.ga_parser.specs.declared.item.AssemblyItem.{AssemblyItem}
 use Rattle.ga_parser.specs.declared.item.AssemblyItem.TheVariants.{Literal, Opcode}
 use Rattle.ga_parser.specs.declared.item.AssemblyRequest.{AssemblyRequest}
-use Rattle.ga_parser.specs.declared.item.AssemblyRequest.TheVariants.{Put, Unext}
+use Rattle.ga_parser.specs.declared.item.AssemblyRequest.TheVariants.{PlaceItem, Unext}
 use Rattle.ga_parser.specs.declared.item.LocatedRequest.{LocatedRequest}
 use Rattle.ga_source.specs.declared.program.Program.{Program}
 use Rattle.ga_source.specs.declared.group.PackingSpot.{PackingSpot}
@@ -26,7 +26,7 @@ item_uses_cell spot _ cell = is_address_of_cell spot.at cell
 
 -- what the request demands is in the cell
 abbrev pub request_uses_cell : List (Option ℕ) → PackingSpot → AssemblyRequest → ℕ → Bool
-request_uses_cell labels spot (Put item) cell = item_uses_cell (item_spot labels spot item) item cell
+request_uses_cell labels spot (PlaceItem item) cell = item_uses_cell (item_spot labels spot item) item cell
 request_uses_cell labels spot (Unext _) cell = is_address_of_cell spot.at cell
 request_uses_cell labels spot _ cell = false
 
@@ -67,7 +67,7 @@ placed_item spot item line = record { address = spot.at; slot = spot.slot; item 
 
 -- the item of a request, if the walk is at this spot
 abbrev pub placed_request_items : List (Option ℕ) → PackingSpot → AssemblyRequest → ℕ → List PlacedItem
-placed_request_items labels spot (Put item) line = placed_item (item_spot labels spot item) item line ∷ []
+placed_request_items labels spot (PlaceItem item) line = placed_item (item_spot labels spot item) item line ∷ []
 placed_request_items labels spot (Unext _) line = placed_item spot (Opcode UnextOp) line ∷ []
 placed_request_items labels spot _ line = []
 
@@ -90,21 +90,21 @@ items_of_first_cell [] = []
 items_of_first_cell (one ∷ rest) = if one.slot == 0 then [] else one ∷ items_of_first_cell rest
 
 -- a first item and those after it in its cell
-abbrev pub group_of_items : PlacedItem → List PlacedItem → CellGroupContent
-group_of_items first behind = record {
+abbrev pub cell_group_of_items : PlacedItem → List PlacedItem → CellGroupContent
+cell_group_of_items first behind = record {
   address = first.address;
   items = first.item ∷ map (λ one. one.item) behind;
   lines = first.line ∷ map (λ one. one.line) behind;
 }
 
 -- for each item in slot 0 the cell that begins with it
-unfoldable pub groups_of_items : List PlacedItem → List CellGroupContent
-groups_of_items [] = []
-groups_of_items (one ∷ rest) = if one.slot == 0 then group_of_items one (items_of_first_cell rest) ∷ groups_of_items rest else groups_of_items rest
+unfoldable pub cell_groups_of_items : List PlacedItem → List CellGroupContent
+cell_groups_of_items [] = []
+cell_groups_of_items (one ∷ rest) = if one.slot == 0 then cell_group_of_items one (items_of_first_cell rest) ∷ cell_groups_of_items rest else cell_groups_of_items rest
 
 -- the cells of requests, where labels have these addresses
-abbrev pub groups_of_requests : List (Option ℕ) → List LocatedRequest → List CellGroupContent
-groups_of_requests labels asked = groups_of_items (placed_items_from labels (first_spot_of_cell 0) asked)
+abbrev pub cell_groups_of_requests : List (Option ℕ) → List LocatedRequest → List CellGroupContent
+cell_groups_of_requests labels asked = cell_groups_of_items (placed_items_from labels (first_spot_of_cell 0) asked)
 
 -- ---- programs
 
@@ -112,5 +112,5 @@ abbrev pub cell_group_content : CellGroup → CellGroupContent
 cell_group_content group = record { address = group.address; items = group.items.items; lines = group.lines.items }
 
 -- the program's groups are the cells that its requests make, in order: each has just their items, each with its request's line
-abbrev pub HasRequestedGroups : Program → Type 0
-HasRequestedGroups program = map cell_group_content program.groups.items ≡ groups_of_requests program.labels.items program.asked.items
+abbrev pub HasRequestedCellGroups : Program → Type 0
+HasRequestedCellGroups program = map cell_group_content program.groups.items ≡ cell_groups_of_requests program.labels.items program.asked.items

@@ -5,16 +5,16 @@ use Rattle.ga_slots.specs.declared.op.Op.{Op}
 use Rattle.ga_slots.specs.declared.op.Op.TheVariants.{StoreB, Store as StoreA, StorePlus, FetchPlus, AStore, BStore, MultiplyStep, Return, Execute, Jump, Call, Unext as UnextOp}
 use Rattle.ga_ports.specs.Address.{advanced_address}
 use Rattle.ga_parser.specs.declared.item.AssemblyItem.{AssemblyItem}
-use Rattle.ga_parser.specs.declared.item.AssemblyItem.TheVariants.{Opcode, Literal, Back, Ahead}
+use Rattle.ga_parser.specs.declared.item.AssemblyItem.TheVariants.{Opcode, Literal, JumpToEarlierLabel, JumpToLaterLabel}
 use Rattle.ga_parser.specs.declared.item.AssemblyRequest.{AssemblyRequest}
-use Rattle.ga_parser.specs.declared.item.AssemblyRequest.TheVariants.{Put, Unext, Mark}
+use Rattle.ga_parser.specs.declared.item.AssemblyRequest.TheVariants.{PlaceItem, Unext, MarkLabel}
 use Rattle.ga_parser.specs.declared.item.LocatedRequest.{LocatedRequest}
 use Rattle.ga_parser.specs.declared.labels.Label.{Label}
 use Rattle.ga_parser.specs.Saying.{has_bytes}
 use Rattle.ga_source.specs.Reading.{operand_value, p_after_item, is_data_cell}
 use Rattle.ga_source.specs.declared.group.CellGroup.{CellGroup}
 use Rattle.ga_source.specs.declared.program.Program.{Program}
-use Rattle.ga_source.specs.declared.stores.Store.{Store}
+use Rattle.ga_source.specs.declared.stores.StoreOverCode.{StoreOverCode}
 use Rattle.ga_source.specs.declared.stores.Known.{Known}
 
 -- ---- which cells hold code
@@ -47,8 +47,8 @@ unfoldable pub code_lines_with_groups : List ℕ → List CellGroup → List ℕ
 code_lines_with_groups code [] = code
 code_lines_with_groups code (group ∷ groups) = code_lines_with_groups (if is_data_cell group.items.items then code else code_lines_with_word code group) groups
 
-abbrev pub code_lines : Program → List ℕ
-code_lines program = code_lines_with_groups (replicate 192 0) program.groups.items
+abbrev pub code_line_of_each_cell : Program → List ℕ
+code_line_of_each_cell program = code_lines_with_groups (replicate 192 0) program.groups.items
 
 -- ---- what is known of A and B along the source
 
@@ -84,38 +84,38 @@ known_registers_after_loop known op = record { a = None; b = (known_registers_af
 abbrev pub is_unnamed_label : List Label → ℕ → Bool
 is_unnamed_label names label = option_map_or (λ (found : Label). not (has_bytes found.name.now)) (slice_get names label) false
 
-abbrev pub known_registers_after_request : Program → Known → AssemblyRequest → Known
-known_registers_after_request program known (Put (Literal value)) = record { a = known.a; b = known.b; literal = operand_value program.labels.items value }
-known_registers_after_request program known (Put (Opcode op)) = known_registers_after_opcode known op
-known_registers_after_request program known (Put (Ahead op _)) = known_registers_after_opcode known op
-known_registers_after_request program known (Put (Back op _)) = known_registers_after_loop known op
-known_registers_after_request program known (Unext _) = known_registers_after_loop known UnextOp
-known_registers_after_request program known (Mark label) = if is_unnamed_label program.names.items label then known else unknown_registers
-known_registers_after_request program known _ = known
+abbrev pub known_values_after_request : Program → Known → AssemblyRequest → Known
+known_values_after_request program known (PlaceItem (Literal value)) = record { a = known.a; b = known.b; literal = operand_value program.labels.items value }
+known_values_after_request program known (PlaceItem (Opcode op)) = known_registers_after_opcode known op
+known_values_after_request program known (PlaceItem (JumpToLaterLabel op _)) = known_registers_after_opcode known op
+known_values_after_request program known (PlaceItem (JumpToEarlierLabel op _)) = known_registers_after_loop known op
+known_values_after_request program known (Unext _) = known_registers_after_loop known UnextOp
+known_values_after_request program known (MarkLabel label) = if is_unnamed_label program.names.items label then known else unknown_registers
+known_values_after_request program known _ = known
 
 -- ---- stores
 
 -- a store at this address, where its cell is one of RAM that holds code
-abbrev pub code_store_at : List ℕ → ℕ → ℕ → Option Store
-code_store_at code line address =
+abbrev pub store_over_code_at_address : List ℕ → ℕ → ℕ → Option StoreOverCode
+store_over_code_at_address code line address =
     if not (slice_index code (cell_index address) == 0) && nat_lt (address % 512) 128
     then Some (record { line = line; address = address % 64; code_line = slice_index code (cell_index address) })
     else None
 
-abbrev pub code_store_of_request : List ℕ → Known → ℕ → AssemblyRequest → Option Store
-code_store_of_request code known line (Put (Opcode op)) = option_map_or (code_store_at code line) (store_address known op) None
-code_store_of_request code known line _ = None
+abbrev pub store_over_code_of_request : List ℕ → Known → ℕ → AssemblyRequest → Option StoreOverCode
+store_over_code_of_request code known line (PlaceItem (Opcode op)) = option_map_or (store_over_code_at_address code line) (store_address known op) None
+store_over_code_of_request code known line _ = None
 
-abbrev pub with_optional_store : Option Store → List Store → List Store
-with_optional_store None stores = stores
-with_optional_store (Some store) stores = store ∷ stores
+abbrev pub stores_with_optional_store : Option StoreOverCode → List StoreOverCode → List StoreOverCode
+stores_with_optional_store None stores = stores
+stores_with_optional_store (Some store) stores = store ∷ stores
 
 -- those of the requests, in their order, where this is known before the first
-unfoldable pub stores_of_requests : Program → List ℕ → Known → List LocatedRequest → List Store
-stores_of_requests program code known [] = []
-stores_of_requests program code known (asked ∷ rest) =
-    with_optional_store (code_store_of_request code known asked.line asked.request) (stores_of_requests program code (known_registers_after_request program known asked.request) rest)
+unfoldable pub code_stores_of_requests : Program → List ℕ → Known → List LocatedRequest → List StoreOverCode
+code_stores_of_requests program code known [] = []
+code_stores_of_requests program code known (asked ∷ rest) =
+    stores_with_optional_store (store_over_code_of_request code known asked.line asked.request) (code_stores_of_requests program code (known_values_after_request program known asked.request) rest)
 
 -- all of a program
-abbrev pub stores_of_program : Program → List Store
-stores_of_program program = stores_of_requests program (code_lines program) unknown_registers program.asked.items
+abbrev pub stores_over_code_of_program : Program → List StoreOverCode
+stores_over_code_of_program program = code_stores_of_requests program (code_line_of_each_cell program) unknown_registers program.asked.items

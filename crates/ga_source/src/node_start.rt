@@ -2,13 +2,13 @@
 
 ghost use Rattle.std.specs.Prelude.{◌≡◌, ◌≤◌, ◌<◌, length, drop, IfOk, IfErr};
 ghost use Rattle.ga_grid.specs.Grid.{optional_node_number};
-ghost use Rattle.ga_parser.specs.Saying.{token_content, token_contents, is_word};
+ghost use Rattle.ga_parser.specs.Saying.{token_content, token_contents, is_word_token};
 ghost use Rattle.ga_source.specs.Recovery.{is_node_token, node_of_token, misplaced_word_fault as misplaced_at};
-ghost use Rattle.ga_source.specs.inner.{head_of, left_of, Skips, IsBegun};
+ghost use Rattle.ga_source.specs.inner.{head_of, words_left_if_no_node_begins, SkipsToNextNode, BeginsNewNode};
 
 use super::program::{body_length, is_node_keyword, node_named};
 use ga_grid::NodeId;
-use ga_parser::{SourceCause, SourceFault, Token, TokenKind};
+use ga_parser::{SourceFault, SourceFaultCause, Token, TokenKind};
 
 /// Whether a program begins with the word.
 fn begins(word: &Token<'_>) -> bool
@@ -26,22 +26,22 @@ fn node_of(name: Token<'_>) -> Option<NodeId>
         TokenKind::LongLine
         | TokenKind::OpenComment
         | TokenKind::NoNumber
-        | TokenKind::Missing
-        | TokenKind::Taken => None,
+        | TokenKind::MissingNameOrValue
+        | TokenKind::NameTaken => None,
     }
 }
 
 /// The fault of a word that can't be in its place, or else of its line.
-fn misplaced_word_fault<'s>(word: Token<'s>, cause: SourceCause<'s>) -> SourceFault<'s>
+fn misplaced_word_fault<'s>(word: Token<'s>, cause: SourceFaultCause<'s>) -> SourceFault<'s>
     ensures { result ≡ misplaced_at (token_content word.entry) cause.entry }
 {
     let cause = match word.kind {
         TokenKind::Word => cause,
-        TokenKind::LongLine => SourceCause::LongLine,
-        TokenKind::OpenComment => SourceCause::OpenComment,
-        TokenKind::NoNumber => SourceCause::NoNumber,
-        TokenKind::Missing => SourceCause::Missing,
-        TokenKind::Taken => SourceCause::Taken,
+        TokenKind::LongLine => SourceFaultCause::LongLine,
+        TokenKind::OpenComment => SourceFaultCause::OpenComment,
+        TokenKind::NoNumber => SourceFaultCause::NoNumber,
+        TokenKind::MissingNameOrValue => SourceFaultCause::MissingNameOrValue,
+        TokenKind::NameTaken => SourceFaultCause::NameTaken,
     };
     SourceFault {
         line: word.line,
@@ -57,22 +57,22 @@ fn misplaced_word_fault<'s>(word: Token<'s>, cause: SourceCause<'s>) -> SourceFa
 pub(crate) fn node_begun<'s>(begun: &[bool], words: &[Token<'s>]) -> Result<NodeId, SourceFault<'s>>
     requires some { 0 < length words.now }
     requires size { length begun.now ≡ 144 }
-    ensures begun { IfOk result (λ id. IsBegun begun.now (token_contents words.now) id.number) }
-    ensures refused { IfErr result (Skips begun.now (token_contents words.now)) }
+    ensures begun { IfOk result (λ id. BeginsNewNode begun.now (token_contents words.now) id.number) }
+    ensures refused { IfErr result (SkipsToNextNode begun.now (token_contents words.now)) }
 {
     let first = words[0];
     if !begins(&first) {
-        return Err(misplaced_word_fault(first, SourceCause::NoNode));
+        return Err(misplaced_word_fault(first, SourceFaultCause::NoNodeBegun));
     }
     if words.len() < 2 {
-        return Err(misplaced_word_fault(first, SourceCause::Missing));
+        return Err(misplaced_word_fault(first, SourceFaultCause::MissingNameOrValue));
     }
     let name = words[1];
     let Some(node) = node_of(name) else {
-        return Err(misplaced_word_fault(name, SourceCause::NoSuchNode));
+        return Err(misplaced_word_fault(name, SourceFaultCause::NoSuchNode));
     };
     if begun[node.index()] {
-        return Err(misplaced_word_fault(name, SourceCause::NodeTwice));
+        return Err(misplaced_word_fault(name, SourceFaultCause::NodeTwice));
     }
     Ok(node)
 }
@@ -93,7 +93,7 @@ fn head_length(words: &[Token<'_>]) -> usize
 
 /// Whether the word is no fault.
 fn is_whole(word: &Token<'_>) -> bool
-    ensures { result ≡ is_word (token_content word.now) }
+    ensures { result ≡ is_word_token (token_content word.now) }
 {
     word.kind == TokenKind::Word
 }
@@ -104,7 +104,7 @@ pub(crate) fn skipped_length(words: &[Token<'_>]) -> usize
     requires { 0 < length words.now }
     ensures some { 0 < result }
     ensures in_range { result ≤ length words.now }
-    ensures left { token_contents (drop result words.now) ≡ left_of (token_contents words.now) }
+    ensures left { token_contents (drop result words.now) ≡ words_left_if_no_node_begins (token_contents words.now) }
 {
     if !is_whole(&words[0]) {
         return 1;

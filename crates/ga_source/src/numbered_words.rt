@@ -1,14 +1,14 @@
 //! Words with their numbers in place of their lines, and faults at the lines of their words.
 
 ghost use Rattle.std.specs.Prelude.{◌≡◌, ℕ, List, IfOk, IfErr};
-ghost use Rattle.ga_parser.specs.declared.fault.SourceCause.TheVariants.{Memory};
+ghost use Rattle.ga_parser.specs.declared.fault.SourceFaultCause.TheVariants.{Memory};
 ghost use Rattle.ga_parser.specs.Saying.{token_contents};
 ghost use Rattle.ga_parser.specs.Words.{source_tokens};
-ghost use Rattle.ga_source.specs.Made.{IsSoundSource};
-ghost use Rattle.ga_source.specs.Recovery.{token_with_line, tokens_with_numbers, IsAssemblyOfWords, line_of_numbered_word, fault_at_line, faults_by_line};
+ghost use Rattle.ga_source.specs.Made.{IsPlainSource};
+ghost use Rattle.ga_source.specs.Recovery.{token_with_line, tokens_with_word_numbers, IsAssemblyOfWords, line_of_numbered_word, fault_at_line_of_word, faults_at_lines_of_words};
 
 use super::program::{AssembledChip, assemble_words};
-use ga_parser::{SourceCause, SourceFault, Token};
+use ga_parser::{SourceFault, SourceFaultCause, Token};
 use std::alloc::{AllocError, Global};
 
 /// The words with their numbers, from 1 on, in place of their lines.
@@ -16,7 +16,7 @@ pub(crate) fn number_words<'s>(
     alloc: Global,
     words: &[Token<'s>],
 ) -> Result<Vec<Token<'s>>, AllocError>
-    ensures { IfOk result (λ all. all.items ≡ tokens_with_numbers 1 words.now) }
+    ensures { IfOk result (λ all. all.items ≡ tokens_with_word_numbers 1 words.now) }
 {
     let mut all = Vec::new(alloc);
     let mut number = 1u32;
@@ -48,10 +48,10 @@ pub fn assemble_by_word_number<'s>(
     alloc: Global,
     words: &[Token<'s>],
 ) -> Result<AssembledChip<'s>, SourceFault<'s>>
-    ensures assembled { IfOk result (IsAssemblyOfWords (tokens_with_numbers 1 words.now)) }
+    ensures assembled { IfOk result (IsAssemblyOfWords (tokens_with_word_numbers 1 words.now)) }
 
     // All words of a source of plain words that give each cell once are refused only if memory runs out.
-    ensures refused { IfErr result (λ fault. (source : List ℕ) → token_contents words.now ≡ source_tokens source → IsSoundSource source → fault.cause ≡ Memory) }
+    ensures refused { IfErr result (λ fault. (source : List ℕ) → token_contents words.now ≡ source_tokens source → IsPlainSource source → fault.cause ≡ Memory) }
 {
     let numbered = number_words(alloc, words)?;
     assemble_words(alloc, numbered.as_slice())
@@ -68,12 +68,12 @@ pub fn line_of_numbered_word(words: &[Token<'_>], number: u32) -> u32
 }
 
 /// A fault at the number of a word, at that word's line.
-pub fn fault_on_line<'s>(words: &[Token<'_>], fault: SourceFault<'s>) -> SourceFault<'s>
-    ensures { result ≡ fault_at_line words.now fault.entry }
+pub fn fault_on_line_of_word<'s>(words: &[Token<'_>], fault: SourceFault<'s>) -> SourceFault<'s>
+    ensures { result ≡ fault_at_line_of_word words.now fault.entry }
 {
     let line = line_of_numbered_word(words, fault.line);
     let cause = match fault.cause {
-        SourceCause::CellTwice { cell, line } => SourceCause::CellTwice {
+        SourceFaultCause::CellTwice { cell, line } => SourceFaultCause::CellTwice {
             cell,
             line: line_of_numbered_word(words, line),
         },
@@ -86,16 +86,16 @@ pub fn fault_on_line<'s>(words: &[Token<'_>], fault: SourceFault<'s>) -> SourceF
 ///
 /// # Errors
 /// Out of memory.
-pub fn faults_on_lines<'s>(
+pub fn faults_on_lines_of_words<'s>(
     alloc: Global,
     words: &[Token<'_>],
     faults: &[SourceFault<'s>],
 ) -> Result<Vec<SourceFault<'s>>, AllocError>
-    ensures { IfOk result (λ all. all.items ≡ faults_by_line words.now faults.now) }
+    ensures { IfOk result (λ all. all.items ≡ faults_at_lines_of_words words.now faults.now) }
 {
     let mut all = Vec::new(alloc);
     for fault in faults {
-        all.push(fault_on_line(words, *fault))?;
+        all.push(fault_on_line_of_word(words, *fault))?;
     }
     all.dedup();
     Ok(all)

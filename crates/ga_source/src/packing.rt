@@ -3,19 +3,21 @@
 ghost use Rattle.std.specs.Prelude.{◌≡◌, ℕ, [], ◌∷◌, ◌++◌, List, IsTrue, true, IfOk, IfErr, OnOk, map, slice_index_or};
 ghost use Rattle.ga_parser.specs.declared.item.LocatedRequest.{LocatedRequest};
 ghost use Rattle.ga_source.specs.Reading.{spot_after_request, item_fits_at_spot as fits_of, first_spot_of_cell as begin_of};
-ghost use Rattle.ga_parser.specs.declared.fault.SourceCause.TheVariants.{Memory};
+ghost use Rattle.ga_parser.specs.declared.fault.SourceFaultCause.TheVariants.{Memory};
 ghost use Rattle.ga_parser.specs.declared.item.Operand.TheVariants.{Number};
 ghost use Rattle.ga_parser.specs.declared.item.AssemblyRequest.{AssemblyRequest as RequestOf};
 ghost use Rattle.ga_source.specs.Made.{requested_cells};
-ghost use Rattle.ga_source.specs.Cells.{cell_group_content, groups_of_requests};
-ghost use Rattle.ga_source.specs.inner.{IsGathered, IsGrouped, IsPutting, IsClosed, IsFilling, IsInCell, IsKnown, IsLaidOut, IsPending, IsWalked, TakesOn, requests_of, IsPlainRequest, ArePlain, AreCellGroups, IsPackedPlain};
+ghost use Rattle.ga_source.specs.Cells.{cell_group_content, cell_groups_of_requests};
+ghost use Rattle.ga_source.specs.inner.{IsCellGathered, AreItemsGrouped, IsItemBeingPut, IsCellClosed, IsNewCellRequest, FillsSlotsBeforeSpot, HasKnownLabelIfJumpBack, ArePackedRequestsLaidOut, IsItemPending, AreRequestsLaidOut, TakesOneRequest, requests_without_lines, IsDataCellOrGoToAddress, ArePlain, AreCellGroups, ArePlainRequestsPacked};
 
 use super::group::{CellGroup, PackingSpot};
-use super::reading::{first_spot_of_cell, item_fits_at_spot, next_cell_spot, spot_after_item};
+use super::reading::{
+    first_spot_of_cell, item_fits_at_spot, next_empty_cell_spot, spot_after_item,
+};
 use arrayvec::ArrayVec;
 use ga_parser::{
-    AssemblyItem, AssemblyRequest, LocatedRequest, SourceCause, SourceFault, fault_at,
-    with_carry_bit,
+    AssemblyItem, AssemblyRequest, LocatedRequest, SourceFault, SourceFaultCause,
+    address_with_carry_bit, source_fault_at,
 };
 use ga_slots::Op;
 use std::alloc::{AllocError, Global};
@@ -65,19 +67,19 @@ impl Packer {
 
     /// Whether the item is no jump back to a label whose address isn't known.
     fn is_known(&self, item: AssemblyItem) -> bool
-        ensures known { IsTrue result → IsKnown self.now.labels.items item }
+        ensures known { IsTrue result → HasKnownLabelIfJumpBack self.now.labels.items item }
         ensures data { (n : ℕ) → item ≡ AssemblyItem.Cell (Number n) → IsTrue result }
     {
         match item {
-            AssemblyItem::Back(_, label) => self.address(label).is_some(),
+            AssemblyItem::JumpToEarlierLabel(_, label) => self.address(label).is_some(),
             _ => true,
         }
     }
 
     /// Ends the cell that is being filled.
     fn close(&mut self) -> Result<(), AllocError>
-        ensures closed { OnOk result (IsClosed self.old self.new) }
-        ensures gathered { OnOk result (IsGathered self.old self.new) }
+        ensures closed { OnOk result (IsCellClosed self.old self.new) }
+        ensures gathered { OnOk result (IsCellGathered self.old self.new) }
         ensures stays { self.old.filling.items ≡ [] → self.old.broken ≡ None → self.new ≡ self.old }
         ensures cell { OnOk result ((n : ℕ) (cells : List (ℕ × ℕ)) → self.old.filling.items ≡ AssemblyItem.Cell (Number n) ∷ [] → self.old.broken ≡ None →
             AreCellGroups cells self.old.groups.items → AreCellGroups (cells ++ (self.old.spot.at, n) ∷ []) self.new.groups.items) }
@@ -96,31 +98,31 @@ impl Packer {
 
     /// Continues in the next cell if the item has no room in this one.
     fn make_room(&mut self, item: AssemblyItem) -> Result<(), AllocError>
-        requires { IsInCell self.old }
-        ensures cell { OnOk result (IsInCell self.new) }
+        requires { FillsSlotsBeforeSpot self.old }
+        ensures cell { OnOk result (FillsSlotsBeforeSpot self.new) }
         ensures stays { fits_of self.old.labels.items self.old.spot item ≡ true → self.new ≡ self.old }
-        ensures pending { OnOk result ((before : List LocatedRequest) (line : ℕ) → IsKnown self.old.labels.items item → IsWalked self.old before →
-            IsPending self.new (before ++ record { line = line; request = AssemblyRequest.Put item } ∷ []) item) }
-        ensures putting { OnOk result ((before : List LocatedRequest) (line : ℕ) → IsKnown self.old.labels.items item → IsWalked self.old before → IsGrouped self.old before →
-            IsPutting self.new (before ++ record { line = line; request = AssemblyRequest.Put item } ∷ []) item line) }
+        ensures pending { OnOk result ((before : List LocatedRequest) (line : ℕ) → HasKnownLabelIfJumpBack self.old.labels.items item → AreRequestsLaidOut self.old before →
+            IsItemPending self.new (before ++ record { line = line; request = AssemblyRequest.PlaceItem item } ∷ []) item) }
+        ensures putting { OnOk result ((before : List LocatedRequest) (line : ℕ) → HasKnownLabelIfJumpBack self.old.labels.items item → AreRequestsLaidOut self.old before → AreItemsGrouped self.old before →
+            IsItemBeingPut self.new (before ++ record { line = line; request = AssemblyRequest.PlaceItem item } ∷ []) item line) }
     {
         if item_fits_at_spot(self.labels.as_slice(), self.spot, item) {
             return Ok(());
         }
         self.close()?;
-        let next = next_cell_spot(self.spot);
+        let next = next_empty_cell_spot(self.spot);
         self.spot = next;
         Ok(())
     }
 
     /// Puts an item at the spot, where it has room.
     fn add(&mut self, line: u32, item: AssemblyItem) -> Result<(), AllocError>
-        requires { IsInCell self.old }
-        ensures cell { OnOk result (IsInCell self.new) }
-        ensures walked { OnOk result ((asked : List LocatedRequest) → IsPending self.old asked item → IsWalked self.new asked) }
-        ensures grouped { OnOk result ((asked : List LocatedRequest) → IsPutting self.old asked item line → IsGrouped self.new asked) }
-        ensures packed { OnOk result ((n : ℕ) (requests : List RequestOf) → item ≡ AssemblyItem.Cell (Number n) → IsPackedPlain self.old requests →
-            IsPackedPlain self.new (requests ++ AssemblyRequest.Put item ∷ [])) }
+        requires { FillsSlotsBeforeSpot self.old }
+        ensures cell { OnOk result (FillsSlotsBeforeSpot self.new) }
+        ensures walked { OnOk result ((asked : List LocatedRequest) → IsItemPending self.old asked item → AreRequestsLaidOut self.new asked) }
+        ensures grouped { OnOk result ((asked : List LocatedRequest) → IsItemBeingPut self.old asked item line → AreItemsGrouped self.new asked) }
+        ensures packed { OnOk result ((n : ℕ) (requests : List RequestOf) → item ≡ AssemblyItem.Cell (Number n) → ArePlainRequestsPacked self.old requests →
+            ArePlainRequestsPacked self.new (requests ++ AssemblyRequest.PlaceItem item ∷ [])) }
     {
         self.filling.push(item);
         let _fits = self.lines.try_push(line);
@@ -148,15 +150,15 @@ impl Packer {
 
     /// Takes an item.
     fn put(&mut self, asked: LocatedRequest, item: AssemblyItem) -> Result<(), SourceFault<'static>>
-        requires cell { IsInCell self.old }
-        requires put { asked.request ≡ AssemblyRequest.Put item }
-        ensures taken { OnOk result (TakesOn self.old self.new asked) }
-        ensures packed { OnOk result ((n : ℕ) (requests : List RequestOf) → item ≡ AssemblyItem.Cell (Number n) → IsPackedPlain self.old requests →
-            IsPackedPlain self.new (requests ++ AssemblyRequest.Put item ∷ [])) }
+        requires cell { FillsSlotsBeforeSpot self.old }
+        requires put { asked.request ≡ AssemblyRequest.PlaceItem item }
+        ensures taken { OnOk result (TakesOneRequest self.old self.new asked) }
+        ensures packed { OnOk result ((n : ℕ) (requests : List RequestOf) → item ≡ AssemblyItem.Cell (Number n) → ArePlainRequestsPacked self.old requests →
+            ArePlainRequestsPacked self.new (requests ++ AssemblyRequest.PlaceItem item ∷ [])) }
         ensures refused { IfErr result (λ fault. (n : ℕ) → item ≡ AssemblyItem.Cell (Number n) → fault.cause ≡ Memory) }
     {
         if !self.is_known(item) {
-            return Err(fault_at(asked.line, SourceCause::Unmatched));
+            return Err(source_fault_at(asked.line, SourceFaultCause::UnmatchedControlWord));
         }
         self.make_room(item)?;
         self.add(asked.line, item)?;
@@ -165,9 +167,9 @@ impl Packer {
 
     /// Takes an `unext` to a label.
     fn unext(&mut self, asked: LocatedRequest, label: usize) -> Result<(), SourceFault<'static>>
-        requires cell { IsInCell self.old }
+        requires cell { FillsSlotsBeforeSpot self.old }
         requires unext { asked.request ≡ AssemblyRequest.Unext label }
-        ensures { OnOk result (TakesOn self.old self.new asked) }
+        ensures { OnOk result (TakesOneRequest self.old self.new asked) }
     {
         let is_loop = self.is_loop(label);
         let broken = broken_by(self.broken, asked.line, is_loop);
@@ -178,18 +180,18 @@ impl Packer {
 
     /// Takes the place of a label.
     fn mark(&mut self, asked: LocatedRequest, label: usize) -> Result<(), SourceFault<'static>>
-        requires cell { IsInCell self.old }
-        requires mark { asked.request ≡ AssemblyRequest.Mark label }
-        ensures { OnOk result (TakesOn self.old self.new asked) }
+        requires cell { FillsSlotsBeforeSpot self.old }
+        requires mark { asked.request ≡ AssemblyRequest.MarkLabel label }
+        ensures { OnOk result (TakesOneRequest self.old self.new asked) }
     {
         self.close()?;
-        let next = next_cell_spot(self.spot);
+        let next = next_empty_cell_spot(self.spot);
         self.spot = next;
         if label >= self.labels.len() {
-            return Err(fault_at(asked.line, SourceCause::Unmatched));
+            return Err(source_fault_at(asked.line, SourceFaultCause::UnmatchedControlWord));
         }
         if self.labels[label].is_some() {
-            return Err(fault_at(asked.line, SourceCause::LabelTwice));
+            return Err(source_fault_at(asked.line, SourceFaultCause::LabelTwice));
         }
         self.labels[label] = Some(self.spot.at);
         Ok(())
@@ -197,13 +199,13 @@ impl Packer {
 
     /// Ends the cell, and continues in the one at a spot.
     fn go(&mut self, asked: LocatedRequest, spot: PackingSpot) -> Result<(), SourceFault<'static>>
-        requires cell { IsInCell self.old }
+        requires cell { FillsSlotsBeforeSpot self.old }
         requires begin { spot.slot ≡ 0 }
-        requires fills { IsFilling asked.request }
+        requires fills { IsNewCellRequest asked.request }
         requires after { spot_after_request self.old.labels.items self.old.spot asked.request ≡ spot }
-        ensures taken { OnOk result (TakesOn self.old self.new asked) }
-        ensures packed { OnOk result ((address : ℕ) (requests : List RequestOf) → spot ≡ begin_of address → IsPackedPlain self.old requests →
-            IsPackedPlain self.new (requests ++ AssemblyRequest.Go address ∷ [])) }
+        ensures taken { OnOk result (TakesOneRequest self.old self.new asked) }
+        ensures packed { OnOk result ((address : ℕ) (requests : List RequestOf) → spot ≡ begin_of address → ArePlainRequestsPacked self.old requests →
+            ArePlainRequestsPacked self.new (requests ++ AssemblyRequest.GoToAddress address ∷ [])) }
         ensures refused { IfErr result (λ fault. fault.cause ≡ Memory) }
     {
         self.close()?;
@@ -212,22 +214,22 @@ impl Packer {
     }
 
     fn take(&mut self, asked: LocatedRequest) -> Result<(), SourceFault<'static>>
-        requires { IsInCell self.old }
-        ensures taken { OnOk result (TakesOn self.old self.new asked) }
-        ensures packed { OnOk result ((requests : List RequestOf) → IsPlainRequest asked.request → IsPackedPlain self.old requests →
-            IsPackedPlain self.new (requests ++ asked.request ∷ [])) }
-        ensures refused { IfErr result (λ fault. IsPlainRequest asked.request → fault.cause ≡ Memory) }
+        requires { FillsSlotsBeforeSpot self.old }
+        ensures taken { OnOk result (TakesOneRequest self.old self.new asked) }
+        ensures packed { OnOk result ((requests : List RequestOf) → IsDataCellOrGoToAddress asked.request → ArePlainRequestsPacked self.old requests →
+            ArePlainRequestsPacked self.new (requests ++ asked.request ∷ [])) }
+        ensures refused { IfErr result (λ fault. IsDataCellOrGoToAddress asked.request → fault.cause ≡ Memory) }
     {
-        let next = next_cell_spot(self.spot);
+        let next = next_empty_cell_spot(self.spot);
         match asked.request {
-            AssemblyRequest::Put(item) => self.put(asked, item),
+            AssemblyRequest::PlaceItem(item) => self.put(asked, item),
             AssemblyRequest::Unext(label) => self.unext(asked, label),
-            AssemblyRequest::Mark(label) => self.mark(asked, label),
-            AssemblyRequest::Fill => self.go(asked, next),
-            AssemblyRequest::Go(address) => self.go(asked, first_spot_of_cell(address)),
+            AssemblyRequest::MarkLabel(label) => self.mark(asked, label),
+            AssemblyRequest::BeginNewCell => self.go(asked, next),
+            AssemblyRequest::GoToAddress(address) => self.go(asked, first_spot_of_cell(address)),
             AssemblyRequest::Carry(is_set) => self.go(
                 asked,
-                first_spot_of_cell(with_carry_bit(is_set, next.at)),
+                first_spot_of_cell(address_with_carry_bit(is_set, next.at)),
             ),
         }
     }
@@ -239,10 +241,10 @@ pub(crate) fn pack(
     asked: &[LocatedRequest],
     labels: usize,
 ) -> Result<PackedNode, SourceFault<'static>>
-    ensures laid_out { IfOk result (λ packed. IsLaidOut packed asked.now) }
-    ensures groups { IfOk result (λ packed. map cell_group_content packed.groups.items ≡ groups_of_requests packed.labels.items asked.now) }
-    ensures cells { IfOk result (λ packed. ArePlain (requests_of asked.now) → AreCellGroups (requested_cells 0 (requests_of asked.now)) packed.groups.items) }
-    ensures refused { IfErr result (λ fault. ArePlain (requests_of asked.now) → fault.cause ≡ Memory) }
+    ensures laid_out { IfOk result (λ packed. ArePackedRequestsLaidOut packed asked.now) }
+    ensures groups { IfOk result (λ packed. map cell_group_content packed.groups.items ≡ cell_groups_of_requests packed.labels.items asked.now) }
+    ensures cells { IfOk result (λ packed. ArePlain (requests_without_lines asked.now) → AreCellGroups (requested_cells 0 (requests_without_lines asked.now)) packed.groups.items) }
+    ensures refused { IfErr result (λ fault. ArePlain (requests_without_lines asked.now) → fault.cause ≡ Memory) }
 {
     let mut packer = Packer {
         groups: Vec::new(alloc),

@@ -1,22 +1,22 @@
 //! Words of which some are at fault: all faults, and what the other words give.
 
 ghost use Rattle.std.specs.Prelude.{◌≡◌, ◌≤◌, ◌<◌, ◌++◌, ◌∷◌, [], true, length, drop, IfOk, IfErr, OnOk};
-ghost use Rattle.ga_parser.specs.declared.fault.SourceCause.TheVariants.{Memory};
+ghost use Rattle.ga_parser.specs.declared.fault.SourceFaultCause.TheVariants.{Memory};
 ghost use Rattle.ga_parser.specs.Saying.{token_contents};
-ghost use Rattle.ga_source.specs.Recovery.{tokens_with_numbers, register_value_refusals, register_refusals, AreFaultsOfRequests, AreFaultsOfNode, AreFaultsOfWords, AreFaultsOfSource, faults_or_first as or_this};
-ghost use Rattle.ga_source.specs.inner.{Adds, AreRefused, IsBegun, Recovers};
+ghost use Rattle.ga_source.specs.Recovery.{tokens_with_word_numbers, register_value_refusals, register_refusals, AreFaultsOfRequests, AreFaultsOfNode, AreFaultsOfWords, AreFaultsOfSource, faults_or_first_fault as or_this};
+ghost use Rattle.ga_source.specs.inner.{Adds, AreFaultsOfRefusals, BeginsNewNode, AddsFaultsBeforeRest};
 
 use super::group::CellGroup;
 use super::loading::load_left;
 use super::node_start::{node_begun, skipped_length};
-use super::numbered_words::{faults_on_lines, number_words};
+use super::numbered_words::{faults_on_lines_of_words, number_words};
 use super::packing::{PackedNode, pack};
 use super::program::{AssembledChip, Program, body_length, none_begun, value_given};
 use ga_grid::{Chip, NodeId};
 use ga_node::Node;
 use ga_parser::{
-    InitialRegisters, Label, NodeRequests, RecoveredRequests, Register, RegisterValue, SourceCause,
-    SourceFault, Token, fault_at, recover_requests, source_words_without_copies,
+    InitialRegisters, Label, NodeRequests, RecoveredRequests, Register, RegisterValue, SourceFault,
+    SourceFaultCause, Token, recover_requests, source_fault_at, source_words_without_copies,
 };
 use std::alloc::{AllocError, Global};
 
@@ -34,7 +34,7 @@ fn is_memory(fault: SourceFault<'_>) -> bool
     ensures { result ≡ true → fault.entry.cause ≡ Memory }
 {
     match fault.cause {
-        SourceCause::Memory => true,
+        SourceFaultCause::Memory => true,
         _ => false,
     }
 }
@@ -63,7 +63,7 @@ fn add_given<'s>(
     given: Option<RegisterValue>,
     register: Register,
 ) -> Result<(), AllocError>
-    ensures { OnOk result (Adds (AreRefused (register_value_refusals labels.now names.now register given)) faults.old.items faults.new.items) }
+    ensures { OnOk result (Adds (AreFaultsOfRefusals (register_value_refusals labels.now names.now register given)) faults.old.items faults.new.items) }
 {
     match value_given(labels, names, given, register) {
         Ok(_) => Ok(()),
@@ -97,7 +97,7 @@ fn add_registers<'s>(
     names: &[Label<'s>],
     registers: InitialRegisters,
 ) -> Result<(), AllocError>
-    ensures { OnOk result (Adds (AreRefused (register_refusals labels.now names.now registers)) faults.old.items faults.new.items) }
+    ensures { OnOk result (Adds (AreFaultsOfRefusals (register_refusals labels.now names.now registers)) faults.old.items faults.new.items) }
 {
     add_given(faults, labels, names, registers.p, Register::P)?;
     add_given(faults, labels, names, registers.a, Register::A)?;
@@ -185,9 +185,9 @@ fn recover_begun<'s>(
     words: &[Token<'s>],
 ) -> Result<usize, SourceFault<'s>>
     requires size { length begun.old ≡ 144 }
-    requires node { IsBegun begun.old (token_contents words.now) id.number }
+    requires node { BeginsNewNode begun.old (token_contents words.now) id.number }
     ensures count { IfOk result (λ count. (0 < count) × (count ≤ length words.now)) }
-    ensures faults { IfOk result (λ count. Recovers begun.old (token_contents words.now) begun.new (token_contents (drop count words.now)) faults.old.items faults.new.items) }
+    ensures faults { IfOk result (λ count. AddsFaultsBeforeRest begun.old (token_contents words.now) begun.new (token_contents (drop count words.now)) faults.old.items faults.new.items) }
     ensures refused { IfErr result (λ fault. fault.cause ≡ Memory) }
 {
     begun[id.index()] = true;
@@ -220,7 +220,7 @@ fn recover_first<'s>(
     requires some { 0 < length words.now }
     requires size { length begun.old ≡ 144 }
     ensures count { IfOk result (λ count. (0 < count) × (count ≤ length words.now)) }
-    ensures faults { IfOk result (λ count. Recovers begun.old (token_contents words.now) begun.new (token_contents (drop count words.now)) faults.old.items faults.new.items) }
+    ensures faults { IfOk result (λ count. AddsFaultsBeforeRest begun.old (token_contents words.now) begun.new (token_contents (drop count words.now)) faults.old.items faults.new.items) }
     ensures refused { IfErr result (λ fault. fault.cause ≡ Memory) }
 {
     match node_begun(begun, words) {
@@ -243,18 +243,18 @@ fn recover_first<'s>(
 ///
 /// # Errors
 /// Out of memory.
-pub fn recover_words<'s>(
+pub fn recover_programs<'s>(
     alloc: Global,
     words: &[Token<'s>],
 ) -> Result<RecoveredPrograms<'s>, SourceFault<'s>>
-    ensures faults { IfOk result (λ all. AreFaultsOfWords (token_contents (tokens_with_numbers 1 words.now)) all.faults.items) }
+    ensures faults { IfOk result (λ all. AreFaultsOfWords (token_contents (tokens_with_word_numbers 1 words.now)) all.faults.items) }
     ensures refused { IfErr result (λ fault. fault.cause ≡ Memory) }
 {
     let numbered = number_words(alloc, words)?;
     let all = numbered.as_slice();
     let mut chip = match Chip::new(alloc) {
         Ok(chip) => chip,
-        Err(_) => return Err(fault_at(0, SourceCause::Memory)),
+        Err(_) => return Err(source_fault_at(0, SourceFaultCause::Memory)),
     };
     let mut begun = none_begun();
     let mut programs = Vec::new(alloc);
@@ -281,7 +281,7 @@ pub fn recover_words<'s>(
 ///
 /// # Errors
 /// Out of memory.
-pub fn faults_or_first<'s>(
+pub fn faults_or_first_fault<'s>(
     mut faults: Vec<SourceFault<'s>>,
     first: SourceFault<'s>,
 ) -> Result<Vec<SourceFault<'s>>, AllocError>
@@ -298,7 +298,7 @@ pub fn faults_or_first<'s>(
 ///
 /// # Errors
 /// Out of memory.
-pub fn all_faults<'s>(
+pub fn find_all_faults<'s>(
     alloc: Global,
     source: &'s [u8],
     first: SourceFault<'s>,
@@ -310,7 +310,7 @@ pub fn all_faults<'s>(
         return Err(first);
     }
     let words = source_words_without_copies(alloc, source)?;
-    let recovered = recover_words(alloc, words.as_slice())?;
-    let faults = faults_on_lines(alloc, words.as_slice(), recovered.faults.as_slice())?;
-    Ok(faults_or_first(faults, first)?)
+    let recovered = recover_programs(alloc, words.as_slice())?;
+    let faults = faults_on_lines_of_words(alloc, words.as_slice(), recovered.faults.as_slice())?;
+    Ok(faults_or_first_fault(faults, first)?)
 }

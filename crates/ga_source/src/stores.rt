@@ -3,7 +3,7 @@
 ghost use Rattle.std.specs.Prelude.{◌≡◌, ◌<◌, [], ◌++◌, length, if◌then◌else◌, IfOk, OnOk};
 ghost use Rattle.ga_source.specs.Reading.{is_data_cell};
 ghost use Rattle.ga_source.specs.Reading.{p_after_item as p_behind_of};
-ghost use Rattle.ga_source.specs.Stores.{cell_index, code_lines_with_line, code_lines_with_literal, code_lines_with_word, code_lines as code_lines_of, store_address, known_registers_after_opcode, known_registers_after_loop, is_unnamed_label as is_nameless_by, known_registers_after_request, code_store_at, code_store_of_request, with_optional_store, stores_of_program};
+ghost use Rattle.ga_source.specs.Stores.{cell_index, code_lines_with_line, code_lines_with_literal, code_lines_with_word, code_line_of_each_cell as code_lines_of, store_address, known_registers_after_opcode, known_registers_after_loop, is_unnamed_label as is_nameless_by, known_values_after_request, store_over_code_at_address, store_over_code_of_request, stores_with_optional_store, stores_over_code_of_program};
 
 use super::group::CellGroup;
 use super::program::Program;
@@ -15,7 +15,7 @@ use std::alloc::{AllocError, Global};
 
 /// A store that writes a cell which holds code.
 #[derive(Clone, Copy, PartialEq, Eq, Debug)]
-pub struct Store {
+pub struct StoreOverCode {
     /// The line of the store.
     pub line: u32,
     /// The cell that it writes.
@@ -84,19 +84,21 @@ impl Known {
 
     /// What is known after a request. A named label may be reached from elsewhere.
     fn behind(self, program: &Program<'_>, request: AssemblyRequest) -> Self
-        ensures { result ≡ known_registers_after_request program.now self request }
+        ensures { result ≡ known_values_after_request program.now self request }
     {
         match request {
-            AssemblyRequest::Put(AssemblyItem::Literal(value)) => Known {
+            AssemblyRequest::PlaceItem(AssemblyItem::Literal(value)) => Known {
                 a: self.a,
                 b: self.b,
                 literal: resolve(program.labels.as_slice(), value),
             },
-            AssemblyRequest::Put(AssemblyItem::Opcode(op))
-            | AssemblyRequest::Put(AssemblyItem::Ahead(op, _)) => self.after(op),
-            AssemblyRequest::Put(AssemblyItem::Back(op, _)) => self.past_loop(op),
+            AssemblyRequest::PlaceItem(AssemblyItem::Opcode(op))
+            | AssemblyRequest::PlaceItem(AssemblyItem::JumpToLaterLabel(op, _)) => self.after(op),
+            AssemblyRequest::PlaceItem(AssemblyItem::JumpToEarlierLabel(op, _)) => self.past_loop(
+                op,
+            ),
             AssemblyRequest::Unext(_) => self.past_loop(Op::Unext),
-            AssemblyRequest::Mark(label) => {
+            AssemblyRequest::MarkLabel(label) => {
                 if is_unnamed_label(program.names.as_slice(), label) {
                     self
                 } else {
@@ -185,7 +187,7 @@ fn note_group(code: &mut [u32], group: &CellGroup)
 
 /// Of each cell the line of its code, 0 where it holds none.
 #[tactic(auto, using(crate::proofs::Storing::groups_more))]
-fn code_lines(program: &Program<'_>) -> [u32; 192]
+fn code_line_of_each_cell(program: &Program<'_>) -> [u32; 192]
     ensures lines { result ≡ code_lines_of program.now }
     ensures size { length result ≡ 192 }
 {
@@ -197,13 +199,13 @@ fn code_lines(program: &Program<'_>) -> [u32; 192]
 }
 
 /// The store at an address, where its cell is one of RAM that holds code. (A store to ROM changes nothing.)
-fn code_store_at(code: &[u32], line: u32, address: u32) -> Option<Store>
+fn store_over_code_at_address(code: &[u32], line: u32, address: u32) -> Option<StoreOverCode>
     requires { length code.now ≡ 192 }
-    ensures { result ≡ code_store_at code.now line address }
+    ensures { result ≡ store_over_code_at_address code.now line address }
 {
     let code_line = code[index_of(address)];
     if code_line != 0 && address % 512 < 128 {
-        Some(Store {
+        Some(StoreOverCode {
             line,
             address: address % 64,
             code_line,
@@ -214,13 +216,17 @@ fn code_store_at(code: &[u32], line: u32, address: u32) -> Option<Store>
 }
 
 /// The store that a request asks for, where its address is known and its cell holds code.
-fn code_store_of_request(code: &[u32], known: Known, asked: LocatedRequest) -> Option<Store>
+fn store_over_code_of_request(
+    code: &[u32],
+    known: Known,
+    asked: LocatedRequest,
+) -> Option<StoreOverCode>
     requires { length code.now ≡ 192 }
-    ensures { result ≡ code_store_of_request code.now known asked.line asked.request }
+    ensures { result ≡ store_over_code_of_request code.now known asked.line asked.request }
 {
     match asked.request {
-        AssemblyRequest::Put(AssemblyItem::Opcode(op)) => match known.store_address(op) {
-            Some(address) => code_store_at(code, asked.line, address),
+        AssemblyRequest::PlaceItem(AssemblyItem::Opcode(op)) => match known.store_address(op) {
+            Some(address) => store_over_code_at_address(code, asked.line, address),
             None => None,
         },
         _ => None,
@@ -228,8 +234,11 @@ fn code_store_of_request(code: &[u32], known: Known, asked: LocatedRequest) -> O
 }
 
 /// Adds a store, where there is one.
-fn add_store(stores: &mut Vec<Store>, store: Option<Store>) -> Result<(), AllocError>
-    ensures { OnOk result (stores.new.items ≡ stores.old.items ++ with_optional_store store []) }
+fn add_store(
+    stores: &mut Vec<StoreOverCode>,
+    store: Option<StoreOverCode>,
+) -> Result<(), AllocError>
+    ensures { OnOk result (stores.new.items ≡ stores.old.items ++ stores_with_optional_store store []) }
 {
     match store {
         Some(store) => {
@@ -246,14 +255,20 @@ fn add_store(stores: &mut Vec<Store>, store: Option<Store>) -> Result<(), AllocE
 /// # Errors
 /// Memory was refused.
 #[tactic(auto, using(crate::proofs::Storing::store_step))]
-pub fn stores_over_code(alloc: Global, program: &Program<'_>) -> Result<Vec<Store>, AllocError>
-    ensures { IfOk result (λ stores. stores.items ≡ stores_of_program program.now) }
+pub fn find_stores_over_code(
+    alloc: Global,
+    program: &Program<'_>,
+) -> Result<Vec<StoreOverCode>, AllocError>
+    ensures { IfOk result (λ stores. stores.items ≡ stores_over_code_of_program program.now) }
 {
-    let code = code_lines(program);
+    let code = code_line_of_each_cell(program);
     let mut stores = Vec::new(alloc);
     let mut known = NOTHING_KNOWN;
     for asked in &program.asked {
-        add_store(&mut stores, code_store_of_request(&code, known, *asked))?;
+        add_store(
+            &mut stores,
+            store_over_code_of_request(&code, known, *asked),
+        )?;
         known = known.behind(program, asked.request);
     }
     Ok(stores)

@@ -2,10 +2,10 @@
 
 ghost use Rattle.std.specs.Prelude.{◌≡◌, ◌<◌, ◌≤◌, ◌+◌, ◌%◌, [], ◌∷◌, slice_index, length};
 ghost use Rattle.ga_stacks.specs.declared.place.StackPlace.TheVariants.{Pointer, Top, Second, Cell};
-ghost use Rattle.ga_stacks.specs.Ring.{fresh_ring, words_of_stack, words_after_push, data_after_pop, with_top};
-ghost use Rattle.ga_stacks.specs.Stack.{word_at_place, old_stack_words, with_stack_word, with_restored_words, HasStackPlace, FitsStackPlace, AreStackChanges, HasDistinctPlaces};
+ghost use Rattle.ga_stacks.specs.Ring.{initial_stack_ring, words_of_stack, words_after_push, data_stack_after_pop, words_with_top};
+ghost use Rattle.ga_stacks.specs.Stack.{stack_word_at_place, stack_places_with_values, stack_with_word, stack_with_restored_words, HasStackPlace, FitsStackPlace, AreStackValuesInRange, AreSavedPlacesDistinct};
 
-use crate::place::{CELLS, FRESH_WORD, OverwrittenPlaces, StackPlace};
+use crate::place::{CELLS, OverwrittenPlaces, StackPlace, UNUSED_STACK_WORD};
 use arrayvec::ArrayVec;
 use ga_word::Word18;
 use std::marker::Model;
@@ -21,9 +21,9 @@ pub struct DataStack {
 
 impl Model for DataStack {
     ghost use Rattle.std.specs.Prelude.{ℕ, ◌<◌, List, [], ◌∷◌};
-    ghost use Rattle.ga_stacks.specs.Ring.{Ring};
+    ghost use Rattle.ga_stacks.specs.Ring.{StackRing};
 
-    ghost Value = { Ring };
+    ghost Value = { StackRing };
 
     ghost view = { λ s. record { registers = s.top ∷ s.second ∷ []; cells = s.cells; pointer = s.pointer } };
 
@@ -33,9 +33,9 @@ impl Model for DataStack {
 impl DataStack {
     /// A stack with 015555 in each of its words.
     pub fn new() -> Self
-        ensures { result ≡ fresh_ring 2 }
+        ensures { result ≡ initial_stack_ring 2 }
     {
-        let word = Word18::from_low_bits(FRESH_WORD);
+        let word = Word18::from_low_bits(UNUSED_STACK_WORD);
         DataStack {
             top: word,
             second: word,
@@ -57,7 +57,7 @@ impl DataStack {
     }
 
     /// The stack that is this list of words, the top first.
-    pub fn of(words: [Word18; 10]) -> Self
+    pub fn from_words(words: [Word18; 10]) -> Self
         ensures { words_of_stack result ≡ words }
     {
         let [top, second, a, b, c, d, e, f, g, h] = words;
@@ -99,10 +99,10 @@ impl DataStack {
     /// Puts a word on top; the oldest word is lost.
     pub fn push(&mut self, word: Word18) -> OverwrittenPlaces
         ensures words_after_push { words_of_stack self.new ≡ words_after_push word (words_of_stack self.old) }
-        ensures state_after_undo { with_restored_words self.new result.items ≡ self.old }
-        ensures overwritten { result.items ≡ old_stack_words self.old (Pointer ∷ Cell ((self.old.pointer + 7) % 8) ∷ Second ∷ Top ∷ []) }
-        ensures fit { AreStackChanges 2 result.items }
-        ensures once { HasDistinctPlaces result.items }
+        ensures state_after_undo { stack_with_restored_words self.new result.items ≡ self.old }
+        ensures overwritten { result.items ≡ stack_places_with_values self.old (Pointer ∷ Cell ((self.old.pointer + 7) % 8) ∷ Second ∷ Top ∷ []) }
+        ensures fit { AreStackValuesInRange 2 result.items }
+        ensures once { AreSavedPlacesDistinct result.items }
         ensures count { length result.items ≤ 4 }
     {
         let pointer = (self.pointer + 7) % CELLS;
@@ -123,11 +123,11 @@ impl DataStack {
 
     /// Takes the top word away; the word that was third is also the new last one.
     pub fn pop(&mut self) -> OverwrittenPlaces
-        ensures words_after_pop { words_of_stack self.new ≡ data_after_pop (words_of_stack self.old) }
-        ensures state_after_undo { with_restored_words self.new result.items ≡ self.old }
-        ensures overwritten { result.items ≡ old_stack_words self.old (Pointer ∷ Second ∷ Top ∷ []) }
-        ensures fit { AreStackChanges 2 result.items }
-        ensures once { HasDistinctPlaces result.items }
+        ensures words_after_pop { words_of_stack self.new ≡ data_stack_after_pop (words_of_stack self.old) }
+        ensures state_after_undo { stack_with_restored_words self.new result.items ≡ self.old }
+        ensures overwritten { result.items ≡ stack_places_with_values self.old (Pointer ∷ Second ∷ Top ∷ []) }
+        ensures fit { AreStackValuesInRange 2 result.items }
+        ensures once { AreSavedPlacesDistinct result.items }
         ensures count { length result.items ≤ 3 }
     {
         let mut saved = ArrayVec::new();
@@ -142,11 +142,11 @@ impl DataStack {
 
     /// Replaces the top by another word.
     pub fn replace_top(&mut self, word: Word18) -> OverwrittenPlaces
-        ensures with_top { words_of_stack self.new ≡ with_top word (words_of_stack self.old) }
-        ensures state_after_undo { with_restored_words self.new result.items ≡ self.old }
-        ensures overwritten { result.items ≡ old_stack_words self.old (Top ∷ []) }
-        ensures fit { AreStackChanges 2 result.items }
-        ensures once { HasDistinctPlaces result.items }
+        ensures words_with_top { words_of_stack self.new ≡ words_with_top word (words_of_stack self.old) }
+        ensures state_after_undo { stack_with_restored_words self.new result.items ≡ self.old }
+        ensures overwritten { result.items ≡ stack_places_with_values self.old (Top ∷ []) }
+        ensures fit { AreStackValuesInRange 2 result.items }
+        ensures once { AreSavedPlacesDistinct result.items }
         ensures count { length result.items ≤ 1 }
     {
         let old = std::mem::replace(&mut self.top, word);
@@ -158,7 +158,7 @@ impl DataStack {
     /// Returns the value of a register, a cell or the pointer.
     pub fn get(&self, place: StackPlace) -> u32
         requires { HasStackPlace 2 place }
-        ensures value { result ≡ word_at_place self.now place }
+        ensures value { result ≡ stack_word_at_place self.now place }
         ensures in_range { FitsStackPlace place result }
     {
         match place {
@@ -173,7 +173,7 @@ impl DataStack {
     pub fn set(&mut self, place: StackPlace, value: u32)
         requires place { HasStackPlace 2 place }
         requires in_range { FitsStackPlace place value }
-        ensures { self.new ≡ with_stack_word self.old place value }
+        ensures { self.new ≡ stack_with_word self.old place value }
     {
         match place {
             StackPlace::Top => self.top = Word18::from_low_bits(value),

@@ -6,5 +6,5 @@ mod place;
 mod returns;
 
 pub use data::DataStack;
-pub use place::{FRESH_WORD, OverwrittenPlaces, StackPlace};
+pub use place::{OverwrittenPlaces, StackPlace, UNUSED_STACK_WORD};
 pub use returns::ReturnStack;

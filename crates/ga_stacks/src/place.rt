@@ -6,7 +6,7 @@ use arrayvec::ArrayVec;
 pub(crate) const CELLS: u8 = 8;
 
 /// What each word of a stack is before anything is pushed.
-pub const FRESH_WORD: u32 = 0x15555;
+pub const UNUSED_STACK_WORD: u32 = 0x15555;
 
 /// A register, a cell or the pointer of a stack.
 #[derive(Clone, Copy, PartialEq, Eq, Debug, Default)]

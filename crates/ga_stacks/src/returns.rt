@@ -2,10 +2,10 @@
 
 ghost use Rattle.std.specs.Prelude.{◌≡◌, ◌<◌, ◌≤◌, ◌+◌, ◌%◌, [], ◌∷◌, slice_index, length};
 ghost use Rattle.ga_stacks.specs.declared.place.StackPlace.TheVariants.{Pointer, Top, Cell};
-ghost use Rattle.ga_stacks.specs.Ring.{fresh_ring, words_of_stack, words_after_push, return_after_pop, with_top};
-ghost use Rattle.ga_stacks.specs.Stack.{word_at_place, old_stack_words, with_stack_word, with_restored_words, HasStackPlace, FitsStackPlace, AreStackChanges, HasDistinctPlaces};
+ghost use Rattle.ga_stacks.specs.Ring.{initial_stack_ring, words_of_stack, words_after_push, return_stack_after_pop, words_with_top};
+ghost use Rattle.ga_stacks.specs.Stack.{stack_word_at_place, stack_places_with_values, stack_with_word, stack_with_restored_words, HasStackPlace, FitsStackPlace, AreStackValuesInRange, AreSavedPlacesDistinct};
 
-use crate::place::{CELLS, FRESH_WORD, OverwrittenPlaces, StackPlace};
+use crate::place::{CELLS, OverwrittenPlaces, StackPlace, UNUSED_STACK_WORD};
 use arrayvec::ArrayVec;
 use ga_word::Word18;
 use std::marker::Model;
@@ -20,9 +20,9 @@ pub struct ReturnStack {
 
 impl Model for ReturnStack {
     ghost use Rattle.std.specs.Prelude.{ℕ, ◌<◌, List, [], ◌∷◌};
-    ghost use Rattle.ga_stacks.specs.Ring.{Ring};
+    ghost use Rattle.ga_stacks.specs.Ring.{StackRing};
 
-    ghost Value = { Ring };
+    ghost Value = { StackRing };
 
     ghost view = { λ s. record { registers = s.top ∷ []; cells = s.cells; pointer = s.pointer } };
 
@@ -32,9 +32,9 @@ impl Model for ReturnStack {
 impl ReturnStack {
     /// A stack with 015555 in each of its words.
     pub fn new() -> Self
-        ensures { result ≡ fresh_ring 1 }
+        ensures { result ≡ initial_stack_ring 1 }
     {
-        let word = Word18::from_low_bits(FRESH_WORD);
+        let word = Word18::from_low_bits(UNUSED_STACK_WORD);
         ReturnStack {
             top: word,
             cells: [word; 8],
@@ -54,7 +54,7 @@ impl ReturnStack {
     }
 
     /// The stack that is this list of words, the top first.
-    pub fn of(words: [Word18; 9]) -> Self
+    pub fn from_words(words: [Word18; 9]) -> Self
         ensures { words_of_stack result ≡ words }
     {
         let [top, a, b, c, d, e, f, g, h] = words;
@@ -87,10 +87,10 @@ impl ReturnStack {
     /// Puts a word on top; the oldest word is lost.
     pub fn push(&mut self, word: Word18) -> OverwrittenPlaces
         ensures words_after_push { words_of_stack self.new ≡ words_after_push word (words_of_stack self.old) }
-        ensures state_after_undo { with_restored_words self.new result.items ≡ self.old }
-        ensures overwritten { result.items ≡ old_stack_words self.old (Pointer ∷ Cell ((self.old.pointer + 7) % 8) ∷ Top ∷ []) }
-        ensures fit { AreStackChanges 1 result.items }
-        ensures once { HasDistinctPlaces result.items }
+        ensures state_after_undo { stack_with_restored_words self.new result.items ≡ self.old }
+        ensures overwritten { result.items ≡ stack_places_with_values self.old (Pointer ∷ Cell ((self.old.pointer + 7) % 8) ∷ Top ∷ []) }
+        ensures fit { AreStackValuesInRange 1 result.items }
+        ensures once { AreSavedPlacesDistinct result.items }
         ensures count { length result.items ≤ 3 }
     {
         let pointer = (self.pointer + 7) % CELLS;
@@ -109,11 +109,11 @@ impl ReturnStack {
 
     /// Takes the top word away; the word that was second is also the new last one.
     pub fn pop(&mut self) -> OverwrittenPlaces
-        ensures words_after_pop { words_of_stack self.new ≡ return_after_pop (words_of_stack self.old) }
-        ensures state_after_undo { with_restored_words self.new result.items ≡ self.old }
-        ensures overwritten { result.items ≡ old_stack_words self.old (Pointer ∷ Top ∷ []) }
-        ensures fit { AreStackChanges 1 result.items }
-        ensures once { HasDistinctPlaces result.items }
+        ensures words_after_pop { words_of_stack self.new ≡ return_stack_after_pop (words_of_stack self.old) }
+        ensures state_after_undo { stack_with_restored_words self.new result.items ≡ self.old }
+        ensures overwritten { result.items ≡ stack_places_with_values self.old (Pointer ∷ Top ∷ []) }
+        ensures fit { AreStackValuesInRange 1 result.items }
+        ensures once { AreSavedPlacesDistinct result.items }
         ensures count { length result.items ≤ 2 }
     {
         let mut saved = ArrayVec::new();
@@ -126,11 +126,11 @@ impl ReturnStack {
 
     /// Replaces the top by another word.
     pub fn replace_top(&mut self, word: Word18) -> OverwrittenPlaces
-        ensures with_top { words_of_stack self.new ≡ with_top word (words_of_stack self.old) }
-        ensures state_after_undo { with_restored_words self.new result.items ≡ self.old }
-        ensures overwritten { result.items ≡ old_stack_words self.old (Top ∷ []) }
-        ensures fit { AreStackChanges 1 result.items }
-        ensures once { HasDistinctPlaces result.items }
+        ensures words_with_top { words_of_stack self.new ≡ words_with_top word (words_of_stack self.old) }
+        ensures state_after_undo { stack_with_restored_words self.new result.items ≡ self.old }
+        ensures overwritten { result.items ≡ stack_places_with_values self.old (Top ∷ []) }
+        ensures fit { AreStackValuesInRange 1 result.items }
+        ensures once { AreSavedPlacesDistinct result.items }
         ensures count { length result.items ≤ 1 }
     {
         let old = std::mem::replace(&mut self.top, word);
@@ -142,7 +142,7 @@ impl ReturnStack {
     /// Returns the value of a register, a cell or the pointer.
     pub fn get(&self, place: StackPlace) -> u32
         requires { HasStackPlace 1 place }
-        ensures value { result ≡ word_at_place self.now place }
+        ensures value { result ≡ stack_word_at_place self.now place }
         ensures in_range { FitsStackPlace place result }
     {
         match place {
@@ -157,7 +157,7 @@ impl ReturnStack {
     pub fn set(&mut self, place: StackPlace, value: u32)
         requires place { HasStackPlace 1 place }
         requires in_range { FitsStackPlace place value }
-        ensures { self.new ≡ with_stack_word self.old place value }
+        ensures { self.new ≡ stack_with_word self.old place value }
     {
         match place {
             StackPlace::Top => self.top = Word18::from_low_bits(value),

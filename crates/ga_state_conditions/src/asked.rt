@@ -21,7 +21,7 @@ pub enum ConditionFault {
     /// A condition depends on how many words were transferred over a link.
     CountsWords,
     /// There are more than [`MAX_CONDITIONS`].
-    TooMany,
+    TooManyConditions,
 }
 
 /// Some conditions.
@@ -38,7 +38,7 @@ fn condition_without_counts(condition: Option<Condition>) -> Result<StateConditi
             } else if counts_words(&condition) {
                 Err(ConditionFault::CountsWords)
             } else {
-                Ok(StateCondition::After(condition))
+                Ok(StateCondition::HoldsAfterEvent(condition))
             }
         }
         None => Err(ConditionFault::Syntax),
@@ -50,7 +50,7 @@ fn stuck_condition(node: Option<NodeId>) -> Result<StateCondition, ConditionFaul
     ensures { result ≡ stuck_condition node }
 {
     match node {
-        Some(node) => Ok(StateCondition::Stuck(node)),
+        Some(node) => Ok(StateCondition::NodeIsStuck(node)),
         None => Err(ConditionFault::Syntax),
     }
 }
@@ -99,5 +99,5 @@ pub fn parse_state_conditions(
             None => return Ok(conditions),
         };
     }
-    Err(ConditionFault::TooMany)
+    Err(ConditionFault::TooManyConditions)
 }

@@ -8,10 +8,10 @@ use Rattle.ga_debug_info.specs.declared.notes.DebugInfo.{DebugInfo}
 use Rattle.ga_parser.specs.declared.expectations.ExpectationLine.{ExpectationLine}
 use Rattle.ga_state_expectations.specs.declared.source.Expectation.{Expectation}
 use Rattle.ga_state_expectations.specs.declared.source.LineExpectation.{LineExpectation}
-use Rattle.ga_state_expectations.specs.declared.cause.ExpectationCause.{ExpectationCause}
+use Rattle.ga_state_expectations.specs.declared.cause.ExpectationFaultCause.{ExpectationFaultCause}
 use Rattle.ga_state_expectations.specs.declared.cause.ExpectationFault.{ExpectationFault}
 use Rattle.ga_state_expectations.specs.declared.cause.ExpectationsError.{ExpectationsError}
-use Rattle.ga_state_expectations.specs.declared.cause.ExpectationsError.TheVariants.{Memory, Faulty}
+use Rattle.ga_state_expectations.specs.declared.cause.ExpectationsError.TheVariants.{Memory, FaultyLines}
 use Rattle.ga_state_expectations.specs.Spelling.{split_first_word, is_whole_chip_keyword, begins_with_digit, parsed_expectation}
 
 -- ---- of which nodes a line speaks
@@ -27,41 +27,41 @@ is_nonempty_node_list [] = false
 is_nonempty_node_list (node ∷ nodes) = true
 
 -- the line speaks of each node in whose program it is
-abbrev pub applies_to_program_nodes : ExpectationLine → Bool
-applies_to_program_nodes line = is_nonempty_node_list line.nodes.items && not (names_expectation_subject line.text.items)
+abbrev pub applies_to_nodes_of_own_program : ExpectationLine → Bool
+applies_to_nodes_of_own_program line = is_nonempty_node_list line.nodes.items && not (names_expectation_subject line.text.items)
 
 -- ---- faults
 
-abbrev pub expectation_parse_cause : Result Expectation ExpectationCause → Option ExpectationCause
-expectation_parse_cause (Ok expectation) = None
-expectation_parse_cause (Err cause) = Some cause
+abbrev pub expectation_parse_fault_cause : Result Expectation ExpectationFaultCause → Option ExpectationFaultCause
+expectation_parse_fault_cause (Ok expectation) = None
+expectation_parse_fault_cause (Err cause) = Some cause
 
-abbrev pub node_expectation_cause : Option DebugInfo → Text → NodeId → Option ExpectationCause
-node_expectation_cause notes text node = expectation_parse_cause (parsed_expectation notes (Some node) text)
+abbrev pub node_expectation_fault_cause : Option DebugInfo → Text → NodeId → Option ExpectationFaultCause
+node_expectation_fault_cause notes text node = expectation_parse_fault_cause (parsed_expectation notes (Some node) text)
 
 -- the text says nothing of the node
-abbrev pub is_expectation_faulty_for : Option DebugInfo → Text → NodeId → Bool
-is_expectation_faulty_for notes text node = is_some (node_expectation_cause notes text node)
+abbrev pub is_expectation_faulty_for_node : Option DebugInfo → Text → NodeId → Bool
+is_expectation_faulty_for_node notes text node = is_some (node_expectation_fault_cause notes text node)
 
-abbrev pub optional_node_expectation_cause : Option DebugInfo → Text → Option NodeId → Option ExpectationCause
-optional_node_expectation_cause notes text None = None
-optional_node_expectation_cause notes text (Some node) = node_expectation_cause notes text node
+abbrev pub fault_cause_for_optional_node : Option DebugInfo → Text → Option NodeId → Option ExpectationFaultCause
+fault_cause_for_optional_node notes text None = None
+fault_cause_for_optional_node notes text (Some node) = node_expectation_fault_cause notes text node
 
 -- what is wrong with what a text says of the first node of which it says nothing
-abbrev pub first_node_expectation_cause : Option DebugInfo → Text → List NodeId → Option ExpectationCause
-first_node_expectation_cause notes text nodes = optional_node_expectation_cause notes text (option_and_then (slice_get nodes) (position (is_expectation_faulty_for notes text) nodes))
+abbrev pub first_faulty_node_cause : Option DebugInfo → Text → List NodeId → Option ExpectationFaultCause
+first_faulty_node_cause notes text nodes = fault_cause_for_optional_node notes text (option_and_then (slice_get nodes) (position (is_expectation_faulty_for_node notes text) nodes))
 
-abbrev pub line_expectation_cause : Option DebugInfo → ExpectationLine → Option ExpectationCause
-line_expectation_cause notes line =
-    if applies_to_program_nodes line then first_node_expectation_cause notes line.text.items line.nodes.items else expectation_parse_cause (parsed_expectation notes None line.text.items)
+abbrev pub line_expectation_fault_cause : Option DebugInfo → ExpectationLine → Option ExpectationFaultCause
+line_expectation_fault_cause notes line =
+    if applies_to_nodes_of_own_program line then first_faulty_node_cause notes line.text.items line.nodes.items else expectation_parse_fault_cause (parsed_expectation notes None line.text.items)
 
-abbrev pub expectation_faults_at_line : ℕ → Option ExpectationCause → List ExpectationFault
-expectation_faults_at_line line None = []
-expectation_faults_at_line line (Some cause) = record { line = line; cause = cause } ∷ []
+abbrev pub faults_of_optional_cause_at_line : ℕ → Option ExpectationFaultCause → List ExpectationFault
+faults_of_optional_cause_at_line line None = []
+faults_of_optional_cause_at_line line (Some cause) = record { line = line; cause = cause } ∷ []
 
 -- the fault of a line, if it has one
 abbrev pub expectation_faults_of_line : Option DebugInfo → ExpectationLine → List ExpectationFault
-expectation_faults_of_line notes line = expectation_faults_at_line line.line (line_expectation_cause notes line)
+expectation_faults_of_line notes line = faults_of_optional_cause_at_line line.line (line_expectation_fault_cause notes line)
 
 abbrev pub expectation_faults_of_lines : Option DebugInfo → List ExpectationLine → List ExpectationFault
 expectation_faults_of_lines notes lines = flat_map (expectation_faults_of_line notes) lines
@@ -78,21 +78,21 @@ abbrev pub line_expectation_content : LineExpectation → LineExpectationContent
 line_expectation_content one = record { line = one.line; text = one.text.items; expectation = one.expectation }
 
 -- a text with the name of a node in front
-abbrev pub text_with_node_name : NodeId → Text → Text
-text_with_node_name node text = name_of_node node ++ 32 ∷ text
+abbrev pub text_after_node_name : NodeId → Text → Text
+text_after_node_name node text = name_of_node node ++ 32 ∷ text
 
-abbrev pub line_expectation_if_parsed : ℕ → Text → Result Expectation ExpectationCause → List LineExpectationContent
+abbrev pub line_expectation_if_parsed : ℕ → Text → Result Expectation ExpectationFaultCause → List LineExpectationContent
 line_expectation_if_parsed line text (Ok expectation) = record { line = line; text = text; expectation = expectation } ∷ []
 line_expectation_if_parsed line text (Err cause) = []
 
 -- what a line expects of a node of its program
-abbrev pub node_expectations : Option DebugInfo → ExpectationLine → NodeId → List LineExpectationContent
-node_expectations notes line node =
-    line_expectation_if_parsed line.line (text_with_node_name node line.text.items) (parsed_expectation notes (Some node) line.text.items)
+abbrev pub line_expectations_for_node : Option DebugInfo → ExpectationLine → NodeId → List LineExpectationContent
+line_expectations_for_node notes line node =
+    line_expectation_if_parsed line.line (text_after_node_name node line.text.items) (parsed_expectation notes (Some node) line.text.items)
 
 abbrev pub line_expectations : Option DebugInfo → ExpectationLine → List LineExpectationContent
 line_expectations notes line =
-    if applies_to_program_nodes line then flat_map (node_expectations notes line) line.nodes.items
+    if applies_to_nodes_of_own_program line then flat_map (line_expectations_for_node notes line) line.nodes.items
     else line_expectation_if_parsed line.line line.text.items (parsed_expectation notes None line.text.items)
 
 abbrev pub expectations_of_source_lines : Option DebugInfo → List ExpectationLine → List LineExpectationContent
@@ -117,6 +117,6 @@ abbrev pub source_expectations : Option DebugInfo → Result (List LineExpectati
 source_expectations notes = expectations_or_faults_of_lines notes (expectation_lines_of_source notes)
 
 -- what is so of the faults, if memory sufficed
-abbrev pub IfExpectationsFaulty : ExpectationsError → (List ExpectationFault → Type 0) → Type 0
-IfExpectationsFaulty Memory P = Unit {0}
-IfExpectationsFaulty (Faulty faults) P = P faults.items
+abbrev pub HoldsForExpectationFaults : ExpectationsError → (List ExpectationFault → Type 0) → Type 0
+HoldsForExpectationFaults Memory P = Unit {0}
+HoldsForExpectationFaults (FaultyLines faults) P = P faults.items

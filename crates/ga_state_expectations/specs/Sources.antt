@@ -4,7 +4,7 @@ use Rattle.ga_text.specs.Lines.{Text}
 use Rattle.ga_parser.specs.Expectations.{expectation_lines}
 use Rattle.ga_source.specs.declared.program.Program.{Program}
 use Rattle.ga_source.specs.Programs.{AreProgramsOfSource}
-use Rattle.ga_source.specs.Made.{IsSoundSource}
+use Rattle.ga_source.specs.Made.{IsPlainSource}
 use Rattle.ga_debug_info.specs.declared.notes.DebugInfo.{DebugInfo}
 use Rattle.ga_debug_info.specs.Notes.{IsDebugInfoOfSource}
 use Rattle.ga_state_expectations.specs.declared.cause.ExpectationFault.{ExpectationFault}
@@ -29,4 +29,4 @@ pub record HasExpectations (source : Text) : Type 0 where
 
 -- the source expects nothing, or has another fault, or expects what it says without a fault
 abbrev pub HasNoFaultyExpectation : Text → Type 0
-HasNoFaultyExpectation source = (expectation_lines source ≡ []) ⊎ ((IsSoundSource source → ⊥) ⊎ HasExpectations source)
+HasNoFaultyExpectation source = (expectation_lines source ≡ []) ⊎ ((IsPlainSource source → ⊥) ⊎ HasExpectations source)

@@ -6,13 +6,13 @@ use thiserror::Error;
 
 /// What is wrong with the words after `expect`.
 #[derive(Clone, Copy, PartialEq, Eq, Debug, Error)]
-pub enum ExpectationCause {
+pub enum ExpectationFaultCause {
     /// There is no expectation, or none of the named node.
     #[error("nothing is expected")]
-    Nothing,
+    NoExpectation,
     /// The first word is `every` or `one`, and the others aren't those of `every order ends` or `one end`.
     #[error("no such expectation of the program")]
-    NoSuchWhole,
+    NoSuchChipExpectation,
     /// No node is named, and none has begun.
     #[error("no node has begun")]
     NoNode,
@@ -45,10 +45,10 @@ pub enum ExpectationCause {
     NoSuchSide,
     /// More sides than one to write to, or more than four to read from.
     #[error("too many sides")]
-    ManySides,
+    TooManySides,
     /// What is awaited isn't code.
     #[error("no code is awaited")]
-    NotCode,
+    AwaitedNotCode,
     /// No stop has this number.
     #[error("no such stop")]
     NoSuchStop,
@@ -63,13 +63,13 @@ pub enum ExpectationCause {
     NoLinkWords,
     /// More words over a link than 64.
     #[error("too many words")]
-    ManyLinkWords,
+    TooManyLinkWords,
     /// A word comes after `..`.
     #[error("words after the end")]
     WordsAfterEnd,
     /// What should never be, has this fault.
     #[error("no conditions")]
-    Never(ConditionFault),
+    NeverConditionFault(ConditionFault),
 }
 
 /// A line that says what is expected, and what is wrong with it.
@@ -78,7 +78,7 @@ pub struct ExpectationFault {
     /// The line's number, from 1 on.
     pub line: u32,
     /// What is wrong.
-    pub cause: ExpectationCause,
+    pub cause: ExpectationFaultCause,
 }
 
 /// Why the lines of a source give no expectations.
@@ -87,7 +87,7 @@ pub enum ExpectationsError {
     /// Out of memory.
     Memory,
     /// Some lines are wrong: the fault of each, in the order of lines.
-    Faulty(Vec<ExpectationFault>),
+    FaultyLines(Vec<ExpectationFault>),
 }
 
 impl From<AllocError> for ExpectationsError {

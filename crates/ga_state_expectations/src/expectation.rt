@@ -1,10 +1,10 @@
 //! What is expected of a node.
 
 ghost use Rattle.std.specs.Prelude.{◌≡◌};
-ghost use Rattle.ga_node.specs.Record.{record_of};
-ghost use Rattle.ga_grid.specs.Chip.{records_of};
-ghost use Rattle.ga_scheduler.specs.Values.{is_step_count};
-ghost use Rattle.ga_state_expectations.specs.Expectations.{awaits_word_from, waits_for_code, is_stopped_with, node_passes_value_test, meets_requirement, is_expectation_satisfied, is_met_on_chip};
+ghost use Rattle.ga_node.specs.Record.{record_of_node};
+ghost use Rattle.ga_grid.specs.Chip.{records_of_chip};
+ghost use Rattle.ga_scheduler.specs.Values.{is_step_count_value};
+ghost use Rattle.ga_state_expectations.specs.Expectations.{awaits_word_from_sides, waits_for_code, is_stopped_with_number, node_passes_value_test, meets_requirement, is_expectation_satisfied_by_node, meets_expectation_on_chip};
 
 use ga_event::is_waiting_to_write;
 use ga_grid::{Chip, NodeId};
@@ -16,11 +16,11 @@ use ga_scheduler::{NodeValue, ValueTest};
 #[derive(Clone, Copy, PartialEq, Eq, Debug)]
 pub enum NodeRequirement {
     /// One of its values passes the test. No node meets a test of the number of steps, which isn't kept at an end.
-    Holds(ValueTest),
+    PassesValueTest(ValueTest),
     /// It waits to read a word from exactly these sides.
-    Reads(PortSet),
+    ReadsFromSides(PortSet),
     /// It waits to write a word to this side.
-    Writes(Side),
+    WritesToSide(Side),
     /// It waits for code.
     AwaitsCode,
     /// It is stopped, by the stop of this number. No node is by that of number 0.
@@ -37,8 +37,8 @@ pub struct NodeExpectation {
 }
 
 /// Whether a node that waits so waits to read a word from exactly these sides.
-fn awaits_word_from(wait: Wait, sides: PortSet) -> bool
-    ensures { result ≡ awaits_word_from wait sides }
+fn awaits_word_from_sides(wait: Wait, sides: PortSet) -> bool
+    ensures { result ≡ awaits_word_from_sides wait sides }
 {
     match wait {
         Wait::Nothing => false,
@@ -61,53 +61,53 @@ fn waits_for_code(wait: Wait) -> bool
 }
 
 /// Whether the number is that of a stop, and the node's.
-fn is_stopped_with(stop: u8, number: u8) -> bool
-    ensures { result ≡ is_stopped_with stop number }
+fn is_stopped_with_number(stop: u8, number: u8) -> bool
+    ensures { result ≡ is_stopped_with_number stop number }
 {
     number != 0 && stop == number
 }
 
 /// Whether a value of the node passes the test, which is of no number of steps.
 fn node_passes_value_test(node: &Node, test: &ValueTest) -> bool
-    ensures { result ≡ node_passes_value_test (record_of node.now) test.now }
+    ensures { result ≡ node_passes_value_test (record_of_node node.now) test.now }
 {
-    !is_step_count(test.value) && test.is_passed_by_node(node, 0)
+    !is_step_count(test.value) && test.is_value_test_passed(node, 0)
 }
 
 /// Whether the value is the number of steps.
 pub(crate) fn is_step_count(value: NodeValue) -> bool
-    ensures { result ≡ is_step_count value }
+    ensures { result ≡ is_step_count_value value }
 {
-    value == NodeValue::Step
+    value == NodeValue::StepCountValue
 }
 
 impl NodeRequirement {
     /// Whether the node has what is required.
-    pub fn is_met_by(&self, node: &Node) -> bool
-        ensures { result ≡ meets_requirement self.now (record_of node.now) }
+    pub fn is_met_by_node(&self, node: &Node) -> bool
+        ensures { result ≡ meets_requirement self.now (record_of_node node.now) }
     {
         match self {
-            NodeRequirement::Holds(test) => node_passes_value_test(node, test),
-            NodeRequirement::Reads(sides) => awaits_word_from(node.wait(), *sides),
-            NodeRequirement::Writes(side) => is_waiting_to_write(&node.wait(), *side),
+            NodeRequirement::PassesValueTest(test) => node_passes_value_test(node, test),
+            NodeRequirement::ReadsFromSides(sides) => awaits_word_from_sides(node.wait(), *sides),
+            NodeRequirement::WritesToSide(side) => is_waiting_to_write(&node.wait(), *side),
             NodeRequirement::AwaitsCode => waits_for_code(node.wait()),
-            NodeRequirement::Stopped(number) => is_stopped_with(node.stop(), *number),
+            NodeRequirement::Stopped(number) => is_stopped_with_number(node.stop(), *number),
         }
     }
 }
 
 impl NodeExpectation {
     /// Whether a node that is as this one satisfies the expectation.
-    pub fn is_satisfied_by(&self, node: &Node) -> bool
-        ensures { result ≡ is_expectation_satisfied self.now (record_of node.now) }
+    pub fn is_satisfied_by_node(&self, node: &Node) -> bool
+        ensures { result ≡ is_expectation_satisfied_by_node self.now (record_of_node node.now) }
     {
-        self.requirement.is_met_by(node)
+        self.requirement.is_met_by_node(node)
     }
 
     /// Whether its node satisfies the expectation on the chip.
-    pub fn is_met_on_chip(&self, chip: &Chip) -> bool
-        ensures { result ≡ is_met_on_chip self.now (records_of chip.now) }
+    pub fn meets_expectation_on_chip(&self, chip: &Chip) -> bool
+        ensures { result ≡ meets_expectation_on_chip self.now (records_of_chip chip.now) }
     {
-        self.is_satisfied_by(chip.node(self.node))
+        self.is_satisfied_by_node(chip.node(self.node))
     }
 }

@@ -5,9 +5,9 @@ ghost use Rattle.std.specs.List.{flat_map};
 ghost use Rattle.ga_text.specs.Lines.{Bytes};
 ghost use Rattle.ga_text.specs.Output.{IsTextWrittenOrTruncated};
 ghost use Rattle.ga_debug_info.specs.Faults.{prefixed_line, more_faults_text, out_of_memory_text};
-ghost use Rattle.ga_state_expectations.specs.Faults.{never_fault_text, expectation_cause_text, expectation_fault_text, expectation_faults_text, expectations_error_text};
+ghost use Rattle.ga_state_expectations.specs.Faults.{never_condition_fault_text, expectation_fault_cause_text, expectation_fault_text, expectation_faults_text, expectations_error_text};
 
-use crate::cause::{ExpectationCause, ExpectationFault, ExpectationsError};
+use crate::cause::{ExpectationFault, ExpectationFaultCause, ExpectationsError};
 use ga_debug_info::report_out_of_memory;
 use ga_state_conditions::ConditionFault;
 use ga_text::{WriteResult, write_all};
@@ -18,8 +18,8 @@ use std::io::Write;
 const MAX_REPORTED: usize = 20;
 
 /// What is wrong with the conditions after `never`, and what would be right.
-fn never_fault_text(fault: ConditionFault) -> &'static [u8]
-    ensures { result.now ≡ never_fault_text fault }
+fn never_condition_fault_text(fault: ConditionFault) -> &'static [u8]
+    ensures { result.now ≡ never_condition_fault_text fault }
 {
     match fault {
         ConditionFault::Syntax => {
@@ -31,53 +31,58 @@ fn never_fault_text(fault: ConditionFault) -> &'static [u8]
         ConditionFault::CountsWords => {
             b"a state counts no words: give the word, as pass NNN MMM OP NUMBER does"
         }
-        ConditionFault::TooMany =>
+        ConditionFault::TooManyConditions =>
             b"too many conditions: at most 8 after a never, others on a line of their own",
     }
 }
 
 /// What is wrong, and what would be right.
-fn expectation_cause_text(cause: ExpectationCause) -> &'static [u8]
-    ensures { result.now ≡ expectation_cause_text cause }
+fn expectation_fault_cause_text(cause: ExpectationFaultCause) -> &'static [u8]
+    ensures { result.now ≡ expectation_fault_cause_text cause }
 {
     match cause {
-        ExpectationCause::Nothing => {
+        ExpectationFaultCause::NoExpectation => {
             b"nothing is expected: [NNN] VALUE OP NUMBER, [NNN] reads SIDE .., [NNN] writes SIDE, [NNN] awaits code, [NNN] stops N, pass NNN MMM = NUMBERS [..], never COND or COND .., every order ends, or one end"
         }
-        ExpectationCause::NoSuchWhole => b"no such expectation: every order ends, or one end",
-        ExpectationCause::NoNode => b"no node has begun: NNN before it names one",
-        ExpectationCause::NoSuchNode => b"no such node: a row of 0 to 7, then a column of 00 to 17",
-        ExpectationCause::NoSuchValue => {
+        ExpectationFaultCause::NoSuchChipExpectation =>
+            b"no such expectation: every order ends, or one end",
+        ExpectationFaultCause::NoNode => b"no node has begun: NNN before it names one",
+        ExpectationFaultCause::NoSuchNode =>
+            b"no such node: a row of 0 to 7, then a column of 00 to 17",
+        ExpectationFaultCause::NoSuchValue => {
             b"no such value: t s r p a b i, d2 to d9, r1 to r8, io, slot, carry or a cell [HH]; nor is it reads, writes, awaits or stops"
         }
-        ExpectationCause::CountsSteps => b"an end counts no steps: compare another value",
-        ExpectationCause::NoSuchComparison => {
+        ExpectationFaultCause::CountsSteps => b"an end counts no steps: compare another value",
+        ExpectationFaultCause::NoSuchComparison => {
             b"no such comparison: VALUE OP NUMBER, where OP is = != < <= > or >="
         }
-        ExpectationCause::NoNumber => b"a number is missing: VALUE OP NUMBER",
-        ExpectationCause::NoSuchNumber => {
+        ExpectationFaultCause::NoNumber => b"a number is missing: VALUE OP NUMBER",
+        ExpectationFaultCause::NoSuchNumber => {
             b"no such number: 291, 0x123, -5, a word of six hexadecimal digits, a port, or a label of the node"
         }
-        ExpectationCause::OutOfRange => b"number out of range (-131072 to 262143)",
-        ExpectationCause::NoSide => b"a side is missing: left, right, up or down",
-        ExpectationCause::NoSuchSide => b"no such side: left, right, up or down",
-        ExpectationCause::ManySides => {
+        ExpectationFaultCause::OutOfRange => b"number out of range (-131072 to 262143)",
+        ExpectationFaultCause::NoSide => b"a side is missing: left, right, up or down",
+        ExpectationFaultCause::NoSuchSide => b"no such side: left, right, up or down",
+        ExpectationFaultCause::TooManySides => {
             b"too many sides: a node writes to one, and reads from four at most"
         }
-        ExpectationCause::NotCode => b"no such wait: awaits code, reads SIDE .. or writes SIDE",
-        ExpectationCause::NoSuchStop => b"no such stop: stops 1, stops 2 or stops 3",
-        ExpectationCause::NotLink => {
+        ExpectationFaultCause::AwaitedNotCode =>
+            b"no such wait: awaits code, reads SIDE .. or writes SIDE",
+        ExpectationFaultCause::NoSuchStop => b"no such stop: stops 1, stops 2 or stops 3",
+        ExpectationFaultCause::NotLink => {
             b"no such expectation: pass NNN MMM = NUMBERS, or pass NNN MMM = NUMBERS .. if others may come after them"
         }
-        ExpectationCause::NotNeighbours => {
+        ExpectationFaultCause::NotNeighbours => {
             b"not neighbours: words pass between a node and the next one in its row or column"
         }
-        ExpectationCause::NoLinkWords => {
+        ExpectationFaultCause::NoLinkWords => {
             b"no words: pass NNN MMM = NUMBERS, or never pass NNN MMM >= 0 if none may come"
         }
-        ExpectationCause::ManyLinkWords => { b"too many words: at most 64, then .. for any others" }
-        ExpectationCause::WordsAfterEnd => { b"words after ..: it comes last, for any others" }
-        ExpectationCause::Never(fault) => never_fault_text(fault),
+        ExpectationFaultCause::TooManyLinkWords => {
+            b"too many words: at most 64, then .. for any others"
+        }
+        ExpectationFaultCause::WordsAfterEnd => { b"words after ..: it comes last, for any others" }
+        ExpectationFaultCause::NeverConditionFault(fault) => never_condition_fault_text(fault),
     }
 }
 
@@ -97,7 +102,7 @@ fn push_fault(text: &mut Vec<u8>, prefix: &[u8], fault: ExpectationFault) -> Res
     text.extend_from_slice(b"line ")?;
     push_number(text, fault.line as usize)?;
     text.extend_from_slice(b": ")?;
-    text.extend_from_slice(expectation_cause_text(fault.cause))?;
+    text.extend_from_slice(expectation_fault_cause_text(fault.cause))?;
     text.push(b'\n')?;
     Ok(())
 }
@@ -159,7 +164,7 @@ pub fn report_expectations_error<E: Write>(
 {
     match why {
         ExpectationsError::Memory => report_out_of_memory(errors),
-        ExpectationsError::Faulty(faults) => {
+        ExpectationsError::FaultyLines(faults) => {
             match format_expectation_faults(alloc, b"ga144: ", faults.as_slice()) {
                 Ok(text) => write_all(errors, text.as_slice()),
                 Err(_) => report_out_of_memory(errors),

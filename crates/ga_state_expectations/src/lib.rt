@@ -14,12 +14,12 @@ mod parsing;
 mod requirement;
 mod source;
 
-pub use cause::{ExpectationCause, ExpectationFault, ExpectationsError};
+pub use cause::{ExpectationFault, ExpectationFaultCause, ExpectationsError};
 pub use checking::check_source_expectations;
-pub use deciding::decide_unmet_expectation;
+pub use deciding::find_decision_against_expectation;
 pub use expectation::{NodeExpectation, NodeRequirement};
 pub use faults::{format_expectation_faults, report_expectations_error};
-pub use finding::find_unmet_expectation;
+pub use finding::find_unmet_expectation_state;
 pub use lines::parse_expectations;
 pub use parsing::parse_expectation;
 pub use source::{Expectation, LineExpectation};

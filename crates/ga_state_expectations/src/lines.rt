@@ -3,9 +3,9 @@
 ghost use Rattle.std.specs.Prelude.{◌≡◌, ◌++◌, map, flat_map, position, Ok, Err, IfOk, OnOk, MatchResult};
 ghost use Rattle.ga_text.specs.Digits.{name_of_node};
 ghost use Rattle.ga_state_expectations.specs.Spelling.{split_first_word, parsed_expectation};
-ghost use Rattle.ga_state_expectations.specs.Lines.{expectation_lines_of_source, source_expectations, names_expectation_subject, applies_to_program_nodes, is_expectation_faulty_for, expectation_parse_cause, first_node_expectation_cause, line_expectation_cause, expectation_faults_of_line, expectation_faults_of_lines, text_with_node_name, line_expectation_content, line_expectation_if_parsed, node_expectations, line_expectations, expectations_of_source_lines, expectations_or_faults_of_lines, IfExpectationsFaulty};
+ghost use Rattle.ga_state_expectations.specs.Lines.{expectation_lines_of_source, source_expectations, names_expectation_subject, applies_to_nodes_of_own_program, is_expectation_faulty_for_node, expectation_parse_fault_cause, first_faulty_node_cause, line_expectation_fault_cause, expectation_faults_of_line, expectation_faults_of_lines, text_after_node_name, line_expectation_content, line_expectation_if_parsed, line_expectations_for_node, line_expectations, expectations_of_source_lines, expectations_or_faults_of_lines, HoldsForExpectationFaults};
 
-use crate::cause::{ExpectationCause, ExpectationFault, ExpectationsError};
+use crate::cause::{ExpectationFault, ExpectationFaultCause, ExpectationsError};
 use crate::parsing::{begins_with_digit, is_whole_chip_keyword, parse_expectation};
 use crate::requirement::split_first_word;
 use crate::source::{Expectation, LineExpectation};
@@ -28,17 +28,17 @@ fn names_expectation_subject(text: &[u8]) -> bool
 }
 
 /// Whether a line speaks of each node in whose program it is.
-fn applies_to_program_nodes(line: &ExpectationLine) -> bool
-    ensures { result ≡ applies_to_program_nodes line.now }
+fn applies_to_nodes_of_own_program(line: &ExpectationLine) -> bool
+    ensures { result ≡ applies_to_nodes_of_own_program line.now }
 {
     !line.nodes.is_empty() && !names_expectation_subject(line.text.as_slice())
 }
 
 /// What is wrong with an expectation.
-fn expectation_parse_cause(
-    parsed: Result<Expectation, ExpectationCause>,
-) -> Option<ExpectationCause>
-    ensures { result ≡ expectation_parse_cause parsed }
+fn expectation_parse_fault_cause(
+    parsed: Result<Expectation, ExpectationFaultCause>,
+) -> Option<ExpectationFaultCause>
+    ensures { result ≡ expectation_parse_fault_cause parsed }
 {
     match parsed {
         Ok(_) => None,
@@ -47,40 +47,47 @@ fn expectation_parse_cause(
 }
 
 /// Whether a text says nothing of a node.
-fn is_expectation_faulty_for(notes: &Option<DebugInfo>, text: &[u8], node: NodeId) -> bool
-    ensures { result ≡ is_expectation_faulty_for notes.now text.now node }
+fn is_expectation_faulty_for_node(notes: &Option<DebugInfo>, text: &[u8], node: NodeId) -> bool
+    ensures { result ≡ is_expectation_faulty_for_node notes.now text.now node }
 {
-    expectation_parse_cause(parse_expectation(notes, Some(node), text)).is_some()
+    expectation_parse_fault_cause(parse_expectation(notes, Some(node), text)).is_some()
 }
 
 /// The place of the first node of which a text says nothing.
 fn faulty_place(notes: &Option<DebugInfo>, text: &[u8], nodes: &[NodeId]) -> Option<usize>
-    ensures { result ≡ position (is_expectation_faulty_for notes.now text.now) nodes.now }
+    ensures { result ≡ position (is_expectation_faulty_for_node notes.now text.now) nodes.now }
 {
     nodes
         .iter()
-        .position(|node| is_expectation_faulty_for(notes, text, *node))
+        .position(|node| is_expectation_faulty_for_node(notes, text, *node))
 }
 
 /// What is wrong with what a text says of some nodes: of the first of which it says nothing.
-fn find_cause(notes: &Option<DebugInfo>, text: &[u8], nodes: &[NodeId]) -> Option<ExpectationCause>
-    ensures { result ≡ first_node_expectation_cause notes.now text.now nodes.now }
+fn find_cause(
+    notes: &Option<DebugInfo>,
+    text: &[u8],
+    nodes: &[NodeId],
+) -> Option<ExpectationFaultCause>
+    ensures { result ≡ first_faulty_node_cause notes.now text.now nodes.now }
 {
     let place = faulty_place(notes, text, nodes)?;
     match nodes.get(place) {
-        Some(node) => expectation_parse_cause(parse_expectation(notes, Some(*node), text)),
+        Some(node) => expectation_parse_fault_cause(parse_expectation(notes, Some(*node), text)),
         None => None,
     }
 }
 
 /// What is wrong with a line.
-fn find_line_cause(notes: &Option<DebugInfo>, line: &ExpectationLine) -> Option<ExpectationCause>
-    ensures { result ≡ line_expectation_cause notes.now line.now }
+fn find_line_cause(
+    notes: &Option<DebugInfo>,
+    line: &ExpectationLine,
+) -> Option<ExpectationFaultCause>
+    ensures { result ≡ line_expectation_fault_cause notes.now line.now }
 {
-    if applies_to_program_nodes(line) {
+    if applies_to_nodes_of_own_program(line) {
         find_cause(notes, line.text.as_slice(), line.nodes.as_slice())
     } else {
-        expectation_parse_cause(parse_expectation(notes, None, line.text.as_slice()))
+        expectation_parse_fault_cause(parse_expectation(notes, None, line.text.as_slice()))
     }
 }
 
@@ -126,8 +133,8 @@ fn copy_of(alloc: Global, text: &[u8]) -> Result<Vec<u8>, AllocError>
 }
 
 /// A text with the name of a node in front.
-fn text_with_node_name(alloc: Global, node: NodeId, text: &[u8]) -> Result<Vec<u8>, AllocError>
-    ensures { IfOk result (λ named. named.items ≡ text_with_node_name node text.now) }
+fn text_after_node_name(alloc: Global, node: NodeId, text: &[u8]) -> Result<Vec<u8>, AllocError>
+    ensures { IfOk result (λ named. named.items ≡ text_after_node_name node text.now) }
 {
     let mut name: ArrayVec<u8, NODE_NAME_BYTES> = ArrayVec::new();
     push_node(&mut name, node);
@@ -142,7 +149,7 @@ fn add_parsed(
     expectations: &mut Vec<LineExpectation>,
     line: u32,
     text: Vec<u8>,
-    parsed: Result<Expectation, ExpectationCause>,
+    parsed: Result<Expectation, ExpectationFaultCause>,
 ) -> Result<(), AllocError>
     ensures { OnOk result (map line_expectation_content expectations.new.items ≡ map line_expectation_content expectations.old.items ++ line_expectation_if_parsed line text.items parsed) }
 {
@@ -164,9 +171,9 @@ fn add_of_node(
     line: &ExpectationLine,
     node: NodeId,
 ) -> Result<(), AllocError>
-    ensures { OnOk result (map line_expectation_content expectations.new.items ≡ map line_expectation_content expectations.old.items ++ node_expectations notes.now line.now node) }
+    ensures { OnOk result (map line_expectation_content expectations.new.items ≡ map line_expectation_content expectations.old.items ++ line_expectations_for_node notes.now line.now node) }
 {
-    let text = text_with_node_name(alloc, node, line.text.as_slice())?;
+    let text = text_after_node_name(alloc, node, line.text.as_slice())?;
     let parsed = parse_expectation(notes, Some(node), line.text.as_slice());
     add_parsed(expectations, line.line, text, parsed)
 }
@@ -179,7 +186,7 @@ fn add_of_nodes(
     line: &ExpectationLine,
     nodes: &[NodeId],
 ) -> Result<(), AllocError>
-    ensures { OnOk result (map line_expectation_content expectations.new.items ≡ map line_expectation_content expectations.old.items ++ flat_map (node_expectations notes.now line.now) nodes.now) }
+    ensures { OnOk result (map line_expectation_content expectations.new.items ≡ map line_expectation_content expectations.old.items ++ flat_map (line_expectations_for_node notes.now line.now) nodes.now) }
 {
     for node in nodes {
         add_of_node(alloc, notes, expectations, line, *node)?;
@@ -196,7 +203,7 @@ fn add_line(
 ) -> Result<(), AllocError>
     ensures { OnOk result (map line_expectation_content expectations.new.items ≡ map line_expectation_content expectations.old.items ++ line_expectations notes.now line.now) }
 {
-    if applies_to_program_nodes(line) {
+    if applies_to_nodes_of_own_program(line) {
         return add_of_nodes(alloc, notes, expectations, line, line.nodes.as_slice());
     }
     let text = copy_of(alloc, line.text.as_slice())?;
@@ -229,11 +236,11 @@ fn parse_lines(
     lines: &[ExpectationLine],
 ) -> Result<Vec<LineExpectation>, ExpectationsError>
     ensures { MatchResult result (λ all. expectations_or_faults_of_lines notes.now lines.now ≡ Ok (map line_expectation_content all.items))
-        (λ why. IfExpectationsFaulty why (λ faults. expectations_or_faults_of_lines notes.now lines.now ≡ Err faults)) }
+        (λ why. HoldsForExpectationFaults why (λ faults. expectations_or_faults_of_lines notes.now lines.now ≡ Err faults)) }
 {
     let faults = find_faults(alloc, notes, lines)?;
     if !faults.is_empty() {
-        return Err(ExpectationsError::Faulty(faults));
+        return Err(ExpectationsError::FaultyLines(faults));
     }
     let all = collect_expectations(alloc, notes, lines)?;
     Ok(all)
@@ -259,7 +266,7 @@ pub fn parse_expectations(
     notes: &Option<DebugInfo>,
 ) -> Result<Vec<LineExpectation>, ExpectationsError>
     ensures { MatchResult result (λ all. source_expectations notes.now ≡ Ok (map line_expectation_content all.items))
-        (λ why. IfExpectationsFaulty why (λ faults. source_expectations notes.now ≡ Err faults)) }
+        (λ why. HoldsForExpectationFaults why (λ faults. source_expectations notes.now ≡ Err faults)) }
 {
     parse_lines(alloc, notes, expectation_lines_of_source(notes))
 }

@@ -1,10 +1,10 @@
 //! What is expected of the words over a link, as text.
 
 ghost use Rattle.std.specs.Prelude.{◌≡◌, codes, bytes_eq};
-ghost use Rattle.ga_state_expectations.specs.Spelling.{word_number_or_cause, parsed_link_word, open_link_words, parsed_link_words_within, no_link_words, parsed_link_words, link_expectation_between, link_expectation_of_words, parsed_link_expectation};
+ghost use Rattle.ga_state_expectations.specs.Spelling.{valid_word_or_fault_cause, parsed_link_word, mark_link_words_open, parsed_link_words_within, link_expectation_without_words, parsed_link_words, link_expectation_between, parse_link_expectation_words, parsed_link_expectation};
 
-use crate::cause::ExpectationCause;
-use crate::requirement::{has_no_words, split_first_word};
+use crate::cause::ExpectationFaultCause;
+use crate::requirement::{is_text_without_words, split_first_word};
 use arrayvec::ArrayVec;
 use ga_conditions::parse_operand;
 use ga_debug_info::LabelAddress;
@@ -17,18 +17,18 @@ use ga_text::parse_node;
 const WORDS: u32 = 1 << 18;
 
 /// The number, if there is one and it is one of a word.
-fn word_number_or_cause(number: Option<u32>) -> Result<u32, ExpectationCause>
-    ensures { result ≡ word_number_or_cause number }
+fn valid_word_or_fault_cause(number: Option<u32>) -> Result<u32, ExpectationFaultCause>
+    ensures { result ≡ valid_word_or_fault_cause number }
 {
     match number {
         Some(number) => {
             if number < WORDS {
                 Ok(number)
             } else {
-                Err(ExpectationCause::OutOfRange)
+                Err(ExpectationFaultCause::OutOfRange)
             }
         }
-        None => Err(ExpectationCause::NoSuchNumber),
+        None => Err(ExpectationFaultCause::NoSuchNumber),
     }
 }
 
@@ -37,10 +37,10 @@ fn parse_link_word(
     names: &[LabelAddress],
     giver: NodeId,
     word: &[u8],
-) -> Result<u32, ExpectationCause>
+) -> Result<u32, ExpectationFaultCause>
     ensures { result ≡ parsed_link_word names.now giver word.now }
 {
-    word_number_or_cause(parse_operand(names, giver, word))
+    valid_word_or_fault_cause(parse_operand(names, giver, word))
 }
 
 /// Whether the word says that others may come.
@@ -51,25 +51,25 @@ fn is_open_end(word: &[u8]) -> bool
 }
 
 /// The expectation with `..`, after which these words come.
-fn open_link_words(
+fn mark_link_words_open(
     expected: LinkExpectation,
     rest: &[u8],
-) -> Result<LinkExpectation, ExpectationCause>
-    ensures { result ≡ open_link_words expected rest.now }
+) -> Result<LinkExpectation, ExpectationFaultCause>
+    ensures { result ≡ mark_link_words_open expected rest.now }
 {
-    if has_no_words(rest) {
+    if is_text_without_words(rest) {
         Ok(LinkExpectation {
             is_open: true,
             ..expected
         })
     } else {
-        Err(ExpectationCause::WordsAfterEnd)
+        Err(ExpectationFaultCause::WordsAfterEnd)
     }
 }
 
 /// An expectation of no words.
-fn no_link_words(from: NodeId, to: NodeId) -> LinkExpectation
-    ensures { result ≡ no_link_words from to }
+fn link_expectation_without_words(from: NodeId, to: NodeId) -> LinkExpectation
+    ensures { result ≡ link_expectation_without_words from to }
 {
     LinkExpectation {
         from,
@@ -85,30 +85,30 @@ fn parse_words_within(
     from: NodeId,
     to: NodeId,
     text: &[u8],
-) -> Result<LinkExpectation, ExpectationCause>
-    ensures { result ≡ parsed_link_words_within names.now 64 (no_link_words from to) text.now }
+) -> Result<LinkExpectation, ExpectationFaultCause>
+    ensures { result ≡ parsed_link_words_within names.now 64 (link_expectation_without_words from to) text.now }
 {
-    let mut expected = no_link_words(from, to);
+    let mut expected = link_expectation_without_words(from, to);
     let mut left = text;
     'words: for _place in 0..MAX_LINK_WORDS {
         let (word, rest) = split_first_word(left);
         if is_open_end(word) {
-            return open_link_words(expected, rest);
+            return mark_link_words_open(expected, rest);
         }
         match parse_link_word(names, expected.from, word) {
             Ok(number) => expected.words.push(number),
             Err(cause) => return Err(cause),
         }
-        if has_no_words(rest) {
+        if is_text_without_words(rest) {
             return Ok(expected);
         }
         left = rest;
     }
     let (word, rest) = split_first_word(left);
     if is_open_end(word) {
-        open_link_words(expected, rest)
+        mark_link_words_open(expected, rest)
     } else {
-        Err(ExpectationCause::ManyLinkWords)
+        Err(ExpectationFaultCause::TooManyLinkWords)
     }
 }
 
@@ -118,11 +118,11 @@ fn parse_link_words(
     from: NodeId,
     to: NodeId,
     text: &[u8],
-) -> Result<LinkExpectation, ExpectationCause>
+) -> Result<LinkExpectation, ExpectationFaultCause>
     ensures { result ≡ parsed_link_words names.now from to text.now }
 {
-    if has_no_words(text) {
-        return Err(ExpectationCause::NoLinkWords);
+    if is_text_without_words(text) {
+        return Err(ExpectationFaultCause::NoLinkWords);
     }
     parse_words_within(names, from, to, text)
 }
@@ -133,19 +133,19 @@ fn parse_between(
     from: Option<NodeId>,
     to: Option<NodeId>,
     text: &[u8],
-) -> Result<LinkExpectation, ExpectationCause>
+) -> Result<LinkExpectation, ExpectationFaultCause>
     ensures { result ≡ link_expectation_between names.now from to text.now }
 {
     let Some(from) = from else {
-        return Err(ExpectationCause::NoSuchNode);
+        return Err(ExpectationFaultCause::NoSuchNode);
     };
     let Some(to) = to else {
-        return Err(ExpectationCause::NoSuchNode);
+        return Err(ExpectationFaultCause::NoSuchNode);
     };
     if are_neighbours(from, to) {
         parse_link_words(names, from, to, text)
     } else {
-        Err(ExpectationCause::NotNeighbours)
+        Err(ExpectationFaultCause::NotNeighbours)
     }
 }
 
@@ -156,13 +156,13 @@ fn parse_link_of_words(
     to: &[u8],
     sign: &[u8],
     text: &[u8],
-) -> Result<LinkExpectation, ExpectationCause>
-    ensures { result ≡ link_expectation_of_words names.now from.now to.now sign.now text.now }
+) -> Result<LinkExpectation, ExpectationFaultCause>
+    ensures { result ≡ parse_link_expectation_words names.now from.now to.now sign.now text.now }
 {
     if sign == b"=".as_slice() {
         parse_between(names, parse_node(from), parse_node(to), text)
     } else {
-        Err(ExpectationCause::NotLink)
+        Err(ExpectationFaultCause::NotLink)
     }
 }
 
@@ -171,7 +171,7 @@ fn parse_link_of_words(
 pub(crate) fn parse_link(
     names: &[LabelAddress],
     text: &[u8],
-) -> Result<LinkExpectation, ExpectationCause>
+) -> Result<LinkExpectation, ExpectationFaultCause>
     ensures { result ≡ parsed_link_expectation names.now text.now }
 {
     let (from, rest) = split_first_word(text);

@@ -3,12 +3,12 @@
 ghost use Rattle.std.specs.Prelude.{◌≡◌};
 ghost use Rattle.ga_conditions.specs.Conditions.{labels_of_debug_info};
 ghost use Rattle.ga_state_conditions.specs.Asked.{parsed_state_conditions};
-ghost use Rattle.ga_state_expectations.specs.Spelling.{parsed_node_expectation, never_expectation, parsed_link_expectation, passes_expectation, parsed_whole_chip_expectation, is_whole_chip_keyword, begins_with_digit, expectation_of_words, parsed_expectation};
+ghost use Rattle.ga_state_expectations.specs.Spelling.{parsed_node_expectation, never_expectation, parsed_link_expectation, expectation_of_passed_words, parsed_whole_chip_expectation, is_whole_chip_keyword, begins_with_digit, parse_expectation_words, parsed_expectation};
 
-use crate::cause::ExpectationCause;
+use crate::cause::ExpectationFaultCause;
 use crate::expectation::NodeExpectation;
 use crate::link::parse_link;
-use crate::requirement::{has_no_words, parse_requirement, split_first_word};
+use crate::requirement::{is_text_without_words, parse_requirement, split_first_word};
 use crate::source::Expectation;
 use ga_debug_info::{DebugInfo, LabelAddress};
 use ga_grid::NodeId;
@@ -29,42 +29,45 @@ fn labels_of(notes: &Option<DebugInfo>) -> &[LabelAddress]
 fn parse_node_expectation(
     notes: &Option<DebugInfo>,
     node: Option<NodeId>,
-    cause: ExpectationCause,
+    cause: ExpectationFaultCause,
     text: &[u8],
-) -> Result<Expectation, ExpectationCause>
+) -> Result<Expectation, ExpectationFaultCause>
     ensures { result ≡ parsed_node_expectation notes.now node cause text.now }
 {
     let Some(node) = node else {
         return Err(cause);
     };
     match parse_requirement(labels_of(notes), node, text) {
-        Ok(requirement) => Ok(Expectation::AtEnds(NodeExpectation { node, requirement })),
+        Ok(requirement) => Ok(Expectation::NodeAtEveryEnd(NodeExpectation { node, requirement })),
         Err(cause) => Err(cause),
     }
 }
 
 /// `COND or COND ..` after `never`.
-fn parse_never(notes: &Option<DebugInfo>, text: &[u8]) -> Result<Expectation, ExpectationCause>
+fn parse_never(notes: &Option<DebugInfo>, text: &[u8]) -> Result<Expectation, ExpectationFaultCause>
     ensures { result ≡ never_expectation (parsed_state_conditions notes.now text.now) }
 {
     match parse_state_conditions(notes, text) {
         Ok(conditions) => Ok(Expectation::Never(conditions)),
-        Err(fault) => Err(ExpectationCause::Never(fault)),
+        Err(fault) => Err(ExpectationFaultCause::NeverConditionFault(fault)),
     }
 }
 
 /// `NNN MMM = NUMBER ..` after `pass`.
-fn parse_passes(notes: &Option<DebugInfo>, text: &[u8]) -> Result<Expectation, ExpectationCause>
-    ensures { result ≡ passes_expectation (parsed_link_expectation (labels_of_debug_info notes.now) text.now) }
+fn parse_passes(
+    notes: &Option<DebugInfo>,
+    text: &[u8],
+) -> Result<Expectation, ExpectationFaultCause>
+    ensures { result ≡ expectation_of_passed_words (parsed_link_expectation (labels_of_debug_info notes.now) text.now) }
 {
     match parse_link(labels_of(notes), text) {
-        Ok(expected) => Ok(Expectation::Passes(expected)),
+        Ok(expected) => Ok(Expectation::LinkPassesWords(expected)),
         Err(cause) => Err(cause),
     }
 }
 
 /// `every order ends` and `one end`.
-fn parse_whole_expectation(text: &[u8]) -> Result<Expectation, ExpectationCause>
+fn parse_whole_expectation(text: &[u8]) -> Result<Expectation, ExpectationFaultCause>
     ensures { result ≡ parsed_whole_chip_expectation text.now }
 {
     if text == b"every order ends".as_slice() {
@@ -72,7 +75,7 @@ fn parse_whole_expectation(text: &[u8]) -> Result<Expectation, ExpectationCause>
     } else if text == b"one end".as_slice() {
         Ok(Expectation::OneEnd)
     } else {
-        Err(ExpectationCause::NoSuchWhole)
+        Err(ExpectationFaultCause::NoSuchChipExpectation)
     }
 }
 
@@ -100,8 +103,8 @@ fn parse_words(
     text: &[u8],
     word: &[u8],
     rest: &[u8],
-) -> Result<Expectation, ExpectationCause>
-    ensures { result ≡ expectation_of_words notes.now node text.now word.now rest.now }
+) -> Result<Expectation, ExpectationFaultCause>
+    ensures { result ≡ parse_expectation_words notes.now node text.now word.now rest.now }
 {
     if word == b"never".as_slice() {
         parse_never(notes, rest)
@@ -110,9 +113,14 @@ fn parse_words(
     } else if is_whole_chip_keyword(word) {
         parse_whole_expectation(text)
     } else if begins_with_digit(word) {
-        parse_node_expectation(notes, parse_node(word), ExpectationCause::NoSuchNode, rest)
+        parse_node_expectation(
+            notes,
+            parse_node(word),
+            ExpectationFaultCause::NoSuchNode,
+            rest,
+        )
     } else {
-        parse_node_expectation(notes, node, ExpectationCause::NoNode, text)
+        parse_node_expectation(notes, node, ExpectationFaultCause::NoNode, text)
     }
 }
 
@@ -125,11 +133,11 @@ pub fn parse_expectation(
     notes: &Option<DebugInfo>,
     node: Option<NodeId>,
     text: &[u8],
-) -> Result<Expectation, ExpectationCause>
+) -> Result<Expectation, ExpectationFaultCause>
     ensures { result ≡ parsed_expectation notes.now node text.now }
 {
-    if has_no_words(text) {
-        return Err(ExpectationCause::Nothing);
+    if is_text_without_words(text) {
+        return Err(ExpectationFaultCause::NoExpectation);
     }
     let (word, rest) = split_first_word(text);
     parse_words(notes, node, text, word, rest)

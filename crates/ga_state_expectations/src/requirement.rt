@@ -2,9 +2,9 @@
 
 ghost use Rattle.std.specs.Prelude.{◌≡◌, ◌<◌};
 ghost use Rattle.ga_ports.specs.Address.{has_side};
-ghost use Rattle.ga_state_expectations.specs.Spelling.{split_first_word, has_no_words, parsed_side_name, side_set_with_side, parsed_sides, parsed_writes_requirement, parsed_awaits_requirement, parsed_stops_requirement, requirement_of_value_test, requirement_of_number_text, requirement_of_comparison_text, requirement_of_words, parsed_requirement};
+ghost use Rattle.ga_state_expectations.specs.Spelling.{split_first_word, is_text_without_words, parsed_side_name, side_set_with_side, parsed_sides, parsed_writes_requirement, parsed_awaits_requirement, parsed_stops_requirement, requirement_of_value_test, requirement_of_number_text, requirement_of_comparison_text, parse_requirement_words, parsed_requirement};
 
-use crate::cause::ExpectationCause;
+use crate::cause::ExpectationFaultCause;
 use crate::expectation::{NodeRequirement, is_step_count};
 use ga_conditions::{parse_comparison, parse_node_value, parse_operand};
 use ga_debug_info::LabelAddress;
@@ -27,8 +27,8 @@ pub(crate) fn split_first_word(text: &[u8]) -> (&[u8], &[u8])
 }
 
 /// Whether a text has no words.
-pub(crate) fn has_no_words(text: &[u8]) -> bool
-    ensures { result ≡ has_no_words text.now }
+pub(crate) fn is_text_without_words(text: &[u8]) -> bool
+    ensures { result ≡ is_text_without_words text.now }
 {
     text.is_empty()
 }
@@ -71,16 +71,16 @@ fn side_set_with_side(sides: u8, side: Side) -> u8
     if has_side(sides, side) {
         sides
     } else {
-        sides + side.bit()
+        sides + side.bit_in_set()
     }
 }
 
 /// The sides that a text names.
-fn parse_sides(text: &[u8]) -> Result<PortSet, ExpectationCause>
+fn parse_sides(text: &[u8]) -> Result<PortSet, ExpectationFaultCause>
     ensures { result ≡ parsed_sides text.now }
 {
-    if has_no_words(text) {
-        return Err(ExpectationCause::NoSide);
+    if is_text_without_words(text) {
+        return Err(ExpectationFaultCause::NoSide);
     }
     let mut sides = 0;
     let mut left = text;
@@ -88,46 +88,46 @@ fn parse_sides(text: &[u8]) -> Result<PortSet, ExpectationCause>
         let (word, rest) = split_first_word(left);
         match parse_side(word) {
             Some(side) => sides = side_set_with_side(sides, side),
-            None => return Err(ExpectationCause::NoSuchSide),
+            None => return Err(ExpectationFaultCause::NoSuchSide),
         }
-        if has_no_words(rest) {
-            return Ok(PortSet::of(sides));
+        if is_text_without_words(rest) {
+            return Ok(PortSet::from_bits(sides));
         }
         left = rest;
     }
-    Err(ExpectationCause::ManySides)
+    Err(ExpectationFaultCause::TooManySides)
 }
 
 /// `SIDE` after `writes`.
-fn parse_write(text: &[u8]) -> Result<NodeRequirement, ExpectationCause>
+fn parse_write(text: &[u8]) -> Result<NodeRequirement, ExpectationFaultCause>
     ensures { result ≡ parsed_writes_requirement text.now }
 {
-    if has_no_words(text) {
-        return Err(ExpectationCause::NoSide);
+    if is_text_without_words(text) {
+        return Err(ExpectationFaultCause::NoSide);
     }
     let (word, rest) = split_first_word(text);
-    if !has_no_words(rest) {
-        return Err(ExpectationCause::ManySides);
+    if !is_text_without_words(rest) {
+        return Err(ExpectationFaultCause::TooManySides);
     }
     match parse_side(word) {
-        Some(side) => Ok(NodeRequirement::Writes(side)),
-        None => Err(ExpectationCause::NoSuchSide),
+        Some(side) => Ok(NodeRequirement::WritesToSide(side)),
+        None => Err(ExpectationFaultCause::NoSuchSide),
     }
 }
 
 /// `code` after `awaits`.
-fn parse_wait(text: &[u8]) -> Result<NodeRequirement, ExpectationCause>
+fn parse_wait(text: &[u8]) -> Result<NodeRequirement, ExpectationFaultCause>
     ensures { result ≡ parsed_awaits_requirement text.now }
 {
     if text == b"code".as_slice() {
         Ok(NodeRequirement::AwaitsCode)
     } else {
-        Err(ExpectationCause::NotCode)
+        Err(ExpectationFaultCause::AwaitedNotCode)
     }
 }
 
 /// `N` after `stops`.
-fn parse_stop(text: &[u8]) -> Result<NodeRequirement, ExpectationCause>
+fn parse_stop(text: &[u8]) -> Result<NodeRequirement, ExpectationFaultCause>
     ensures { result ≡ parsed_stops_requirement text.now }
 {
     if text == b"1".as_slice() {
@@ -137,18 +137,18 @@ fn parse_stop(text: &[u8]) -> Result<NodeRequirement, ExpectationCause>
     } else if text == b"3".as_slice() {
         Ok(NodeRequirement::Stopped(3))
     } else {
-        Err(ExpectationCause::NoSuchStop)
+        Err(ExpectationFaultCause::NoSuchStop)
     }
 }
 
 /// The test, if its number is a word.
-fn requirement_of_value_test(test: ValueTest) -> Result<NodeRequirement, ExpectationCause>
+fn requirement_of_value_test(test: ValueTest) -> Result<NodeRequirement, ExpectationFaultCause>
     ensures { result ≡ requirement_of_value_test test }
 {
-    if test.can_be_passed() {
-        Ok(NodeRequirement::Holds(test))
+    if test.is_test_number_in_range() {
+        Ok(NodeRequirement::PassesValueTest(test))
     } else {
-        Err(ExpectationCause::OutOfRange)
+        Err(ExpectationFaultCause::OutOfRange)
     }
 }
 
@@ -159,14 +159,14 @@ fn parse_number(
     value: NodeValue,
     comparison: Option<Comparison>,
     text: &[u8],
-) -> Result<NodeRequirement, ExpectationCause>
+) -> Result<NodeRequirement, ExpectationFaultCause>
     ensures { result ≡ requirement_of_number_text names.now node value comparison text.now }
 {
     let Some(comparison) = comparison else {
-        return Err(ExpectationCause::NoSuchComparison);
+        return Err(ExpectationFaultCause::NoSuchComparison);
     };
-    if has_no_words(text) {
-        return Err(ExpectationCause::NoNumber);
+    if is_text_without_words(text) {
+        return Err(ExpectationFaultCause::NoNumber);
     }
     match parse_operand(names, node, text) {
         Some(number) => requirement_of_value_test(ValueTest {
@@ -174,7 +174,7 @@ fn parse_number(
             comparison,
             number,
         }),
-        None => Err(ExpectationCause::NoSuchNumber),
+        None => Err(ExpectationFaultCause::NoSuchNumber),
     }
 }
 
@@ -184,14 +184,14 @@ fn parse_comparison_after(
     node: NodeId,
     value: Option<NodeValue>,
     text: &[u8],
-) -> Result<NodeRequirement, ExpectationCause>
+) -> Result<NodeRequirement, ExpectationFaultCause>
     ensures { result ≡ requirement_of_comparison_text names.now node value text.now }
 {
     let Some(value) = value else {
-        return Err(ExpectationCause::NoSuchValue);
+        return Err(ExpectationFaultCause::NoSuchValue);
     };
     if is_step_count(value) {
-        return Err(ExpectationCause::CountsSteps);
+        return Err(ExpectationFaultCause::CountsSteps);
     }
     let (sign, number) = split_first_word(text);
     parse_number(names, node, value, parse_comparison(sign), number)
@@ -203,12 +203,12 @@ fn parse_words(
     node: NodeId,
     word: &[u8],
     text: &[u8],
-) -> Result<NodeRequirement, ExpectationCause>
-    ensures { result ≡ requirement_of_words names.now node word.now text.now }
+) -> Result<NodeRequirement, ExpectationFaultCause>
+    ensures { result ≡ parse_requirement_words names.now node word.now text.now }
 {
     if word == b"reads".as_slice() {
         match parse_sides(text) {
-            Ok(sides) => Ok(NodeRequirement::Reads(sides)),
+            Ok(sides) => Ok(NodeRequirement::ReadsFromSides(sides)),
             Err(cause) => Err(cause),
         }
     } else if word == b"writes".as_slice() {
@@ -228,11 +228,11 @@ pub(crate) fn parse_requirement(
     names: &[LabelAddress],
     node: NodeId,
     text: &[u8],
-) -> Result<NodeRequirement, ExpectationCause>
+) -> Result<NodeRequirement, ExpectationFaultCause>
     ensures { result ≡ parsed_requirement names.now node text.now }
 {
-    if has_no_words(text) {
-        return Err(ExpectationCause::Nothing);
+    if is_text_without_words(text) {
+        return Err(ExpectationFaultCause::NoExpectation);
     }
     let (word, rest) = split_first_word(text);
     parse_words(names, node, word, rest)

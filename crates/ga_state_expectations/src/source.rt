@@ -8,11 +8,11 @@ use ga_state_links::LinkExpectation;
 #[derive(Clone, PartialEq, Eq, Debug, Drop)]
 pub enum Expectation {
     /// A node holds or does something at each end.
-    AtEnds(NodeExpectation),
+    NodeAtEveryEnd(NodeExpectation),
     /// None of these conditions holds after any event.
     Never(StateConditions),
     /// These words pass over a link.
-    Passes(LinkExpectation),
+    LinkPassesWords(LinkExpectation),
     /// No order goes on for ever.
     EveryOrderEnds,
     /// The program has one end.

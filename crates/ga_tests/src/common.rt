@@ -2,18 +2,18 @@
 //!
 //! An assertion in a function of its own is proved once, and costs the tests that call it little.
 
-use ga_debug_info::{DebugInfo, debug_info_of};
+use ga_debug_info::{DebugInfo, debug_info_of_source};
 use ga_grid::NodeId;
 use ga_image::parse;
 use ga_lab::Lab;
-use ga_source::assemble;
+use ga_source::assemble_source_text;
 use std::alloc::Global;
 use std::fmt::{Debug, Display};
 use std::process::Abort;
 use std::test::Fail;
 
 /// A value is the one wanted.
-pub fn assert_same<T: PartialEq + Debug>(rt: &impl Abort, got: &T, wanted: &T) {
+pub fn assert_equal_values<T: PartialEq + Debug>(rt: &impl Abort, got: &T, wanted: &T) {
     assert_eq!(rt; got, wanted);
 }
 
@@ -23,7 +23,7 @@ pub fn assert_each_equal<T: PartialEq + Debug>(rt: &impl Abort, got: &[T], wante
 }
 
 /// Each value has this text for a person.
-pub fn assert_each_text<T: Display>(
+pub fn assert_each_display_text<T: Display>(
     rt: &impl Abort,
     alloc: Global,
     rows: &[(T, &str)],
@@ -56,10 +56,10 @@ pub fn lab_after_steps(
     source: &[u8],
     steps: u32,
 ) -> Result<(Lab, DebugInfo), Fail> {
-    let Ok(assembled) = assemble(alloc, source) else {
+    let Ok(assembled) = assemble_source_text(alloc, source) else {
         panic!(rt; "assembles");
     };
-    let notes = debug_info_of(alloc, source, assembled.programs.as_slice())?;
+    let notes = debug_info_of_source(alloc, source, assembled.programs.as_slice())?;
     let mut lab = Lab::new(alloc, assembled.chip, 1000)?;
     for _ in 0..steps {
         lab.step(NodeId::new(0))?;

@@ -2,8 +2,10 @@
 
 ghost use Rattle.std.specs.Prelude.{◌<◌};
 
-use crate::common::{PAIR_PROGRAM, assert_each_equal, assert_each_text, assert_same, lab_of_image};
-use ga_causal::{Cause, Chain, Link, find_chain, is_chain};
+use crate::common::{
+    PAIR_PROGRAM, assert_each_display_text, assert_each_equal, assert_equal_values, lab_of_image,
+};
+use ga_causal::{Chain, ChainLink, EventWithLook, find_chain, is_chain};
 use ga_event::Event;
 use ga_grid::NodeId;
 use ga_lab::{Lab, LabFault, Ticks};
@@ -12,12 +14,12 @@ use std::alloc::Global;
 use std::process::Abort;
 use std::test::Fail;
 
-fn blind(event: Event) -> Cause {
-    Cause { event, look: false }
+fn blind(event: Event) -> EventWithLook {
+    EventWithLook { event, look: false }
 }
 
 // Own of 000, own of 001, a pass from 000 to 001, own of 000, own of 002.
-fn events() -> [Cause; 5] {
+fn events() -> [EventWithLook; 5] {
     let (first, second) = (NodeId::new(0), NodeId::new(1));
     [
         blind(Event::Own(first)),
@@ -32,8 +34,8 @@ fn events() -> [Cause; 5] {
     ]
 }
 
-fn link(place: u32, rule: u8) -> Link {
-    Link { place, rule }
+fn link(place: u32, rule: u8) -> ChainLink {
+    ChainLink { place, rule }
 }
 
 // The links between two of the events; none where no chain leads there.
@@ -42,7 +44,7 @@ fn links_are(
     alloc: Global,
     from: u32,
     to: u32,
-    wanted: &[Link],
+    wanted: &[ChainLink],
 ) -> Result<(), Fail>
     requires from { from < 5 }
     requires to { to < 5 }
@@ -51,8 +53,8 @@ fn links_are(
     match find_chain(alloc, &events, from, to)? {
         Some(chain) => {
             assert_each_equal(rt, chain.links(), wanted);
-            assert_same(rt, &chain.get(0), &Some(link(from, 0)));
-            assert_same(rt, &is_chain(&events, &chain), &true);
+            assert_equal_values(rt, &chain.get(0), &Some(link(from, 0)));
+            assert_equal_values(rt, &is_chain(&events, &chain), &true);
         }
         None => assert_each_equal(rt, &[], wanted),
     }
@@ -68,9 +70,9 @@ fn chains_are_found(rt: HostRuntime) -> Result<(), Fail> {
 }
 
 // Whether these links are a chain of the events.
-fn checked(rt: &impl Abort, alloc: Global, links: &[Link], wanted: bool) -> Result<(), Fail> {
+fn checked(rt: &impl Abort, alloc: Global, links: &[ChainLink], wanted: bool) -> Result<(), Fail> {
     let chain = Chain::new(links.to_vec(alloc)?);
-    assert_same(rt, &is_chain(&events(), &chain), &wanted);
+    assert_equal_values(rt, &is_chain(&events(), &chain), &wanted);
     Ok(())
 }
 
@@ -112,9 +114,9 @@ fn is_ticked(
     let mut lab = passed_beside(alloc, others)?;
     let mut ticks = Ticks::new();
     let removed = lab.rewind_counting_ticks(at.0, at.1, &mut ticks);
-    assert_same(rt, &removed, &Ok(wanted.0));
+    assert_equal_values(rt, &removed, &Ok(wanted.0));
     let counts = (lab.counts().kept, ticks.count(), ticks.failed_searches());
-    assert_same(rt, &counts, &(wanted.1, wanted.2, 0));
+    assert_equal_values(rt, &counts, &(wanted.1, wanted.2, 0));
     Ok(())
 }
 
@@ -141,7 +143,7 @@ fn refusals_in_words(rt: HostRuntime) -> Result<(), Fail> {
         (LabFault::Memory, "out of memory"),
         (LabFault::Empty, "no event is kept"),
         (LabFault::NoStep, "there is no such step"),
-        (LabFault::Spent, "no more events can be counted"),
+        (LabFault::EventNumbersSpent, "no more events can be counted"),
     ];
-    assert_each_text(&rt, rt.alloc(), &rows)
+    assert_each_display_text(&rt, rt.alloc(), &rows)
 }

@@ -1,6 +1,6 @@
 //! The lines of a source that say what is expected of its programs.
 
-use crate::common::{assert_each_equal, assert_same, lab_after_steps};
+use crate::common::{assert_each_equal, assert_equal_values, lab_after_steps};
 use ga_grid::NodeId;
 use std::alloc::Global;
 use std::test::Fail;
@@ -23,9 +23,9 @@ fn of_a_source(rt: HostRuntime) -> Result<(), Fail> {
         (6, &one, b"reads left"),
         (7, &one, b""),
     ];
-    assert_same(&rt, &notes.expectations.len(), &rows.len());
+    assert_equal_values(&rt, &notes.expectations.len(), &rows.len());
     for (found, (line, nodes, text)) in notes.expectations.iter().zip(&rows) {
-        assert_same(&rt, &found.line, line);
+        assert_equal_values(&rt, &found.line, line);
         assert_each_equal(&rt, found.nodes.as_slice(), nodes);
         assert_each_equal(&rt, found.text.as_slice(), text);
     }

@@ -1,7 +1,7 @@
 //! Images that are read and refused, and those in which one byte is changed. Others stand in `.ci/images` at the top.
 
-use crate::common::assert_each_text;
-use ga_image::{ImageCause, ImageFault, parse};
+use crate::common::assert_each_display_text;
+use ga_image::{ImageFault, ImageFaultCause, parse};
 use std::alloc::Global;
 use std::process::Abort;
 use std::test::Fail;
@@ -40,10 +40,10 @@ fn lines_behind_the_end(rt: HostRuntime) {
 fn shown(rt: HostRuntime) -> Result<(), Fail> {
     let fault = ImageFault {
         line: 3,
-        cause: ImageCause::Word,
+        cause: ImageFaultCause::WordOutOfRange,
     };
     let rows = [(fault, "line 3: a number is too great for its place")];
-    assert_each_text(&rt, rt.alloc(), &rows)
+    assert_each_display_text(&rt, rt.alloc(), &rows)
 }
 
 /// Places of an image at which some bytes are good; and a cause, its line, and the bytes that are refused so there.

@@ -1,8 +1,8 @@
 //! Requests, read from content parts, and messages that are written, byte for byte.
 
-use crate::common::{assert_each_text, assert_same};
+use crate::common::{assert_each_display_text, assert_equal_values};
 use ga_dap_protocol::{
-    ClientRequest, Inbox, NextMessage, Outbox, RequestError, member_number, member_text,
+    ClientRequest, Inbox, NextMessage, Outbox, RequestError, member_as_number, member_as_text,
     read_request,
 };
 use serde_json::{Value, json};
@@ -19,12 +19,15 @@ const REFUSED: &[(&[u8], RequestError)] = &[
         b"{\"type\":\"request\",\"seq\":1,\"command\":\"\xff\"}",
         RequestError::Json,
     ),
-    (b"[]", RequestError::Kind),
-    (b"null", RequestError::Kind),
-    (b"{\"seq\":1,\"command\":\"threads\"}", RequestError::Kind),
+    (b"[]", RequestError::WrongType),
+    (b"null", RequestError::WrongType),
+    (
+        b"{\"seq\":1,\"command\":\"threads\"}",
+        RequestError::WrongType,
+    ),
     (
         b"{\"seq\":1,\"type\":\"event\",\"event\":\"stopped\"}",
-        RequestError::Kind,
+        RequestError::WrongType,
     ),
     (
         b"{\"type\":\"request\",\"command\":\"threads\"}",
@@ -42,10 +45,13 @@ const REFUSED: &[(&[u8], RequestError)] = &[
         b"{\"seq\":1.5,\"type\":\"request\",\"command\":\"threads\"}",
         RequestError::Seq,
     ),
-    (b"{\"seq\":1,\"type\":\"request\"}", RequestError::Command),
+    (
+        b"{\"seq\":1,\"type\":\"request\"}",
+        RequestError::MissingCommand,
+    ),
     (
         b"{\"seq\":1,\"type\":\"request\",\"command\":7}",
-        RequestError::Command,
+        RequestError::MissingCommand,
     ),
 ];
 
@@ -66,25 +72,25 @@ fn requests_are_read(rt: HostRuntime) -> Result<(), Fail> {
     let content =
         b"{\n  \"arguments\": {\"threadId\": 1701, \"granularity\": \"instruction\"},\n  \"command\": \"next\", \"seq\": 0, \"type\": \"request\" }";
     let request = read_request(rt.alloc(), content)?;
-    assert_same(&rt, &request.seq, &0);
+    assert_equal_values(&rt, &request.seq, &0);
     assert_eq!(rt; request.command.as_str(), "next");
-    assert_same(
+    assert_equal_values(
         &rt,
-        &member_number(&request.arguments, "threadId"),
+        &member_as_number(&request.arguments, "threadId"),
         &Some(1701),
     );
-    assert_same(
+    assert_equal_values(
         &rt,
-        &member_text(&request.arguments, "granularity"),
+        &member_as_text(&request.arguments, "granularity"),
         &Some("instruction"),
     );
-    assert_same(&rt, &member_text(&request.arguments, "threadId"), &None);
-    assert_same(&rt, &member_number(&request.arguments, "frameId"), &None);
+    assert_equal_values(&rt, &member_as_text(&request.arguments, "threadId"), &None);
+    assert_equal_values(&rt, &member_as_number(&request.arguments, "frameId"), &None);
     let bare = read_request(
         rt.alloc(),
         b"{\"seq\":18446744073709551615,\"type\":\"request\",\"command\":\"\"}",
     )?;
-    assert_same(&rt, &bare.seq, &u64::MAX);
+    assert_equal_values(&rt, &bare.seq, &u64::MAX);
     assert!(rt; bare.arguments.is_null());
     Ok(())
 }
@@ -95,11 +101,11 @@ fn causes_are_said(rt: HostRuntime) -> Result<(), Fail> {
     let causes = [
         (RequestError::Memory, "out of memory"),
         (RequestError::Json, "a message is no JSON"),
-        (RequestError::Kind, "a message is no request"),
+        (RequestError::WrongType, "a message is no request"),
         (RequestError::Seq, "a request has no `seq`"),
-        (RequestError::Command, "a request has no `command`"),
+        (RequestError::MissingCommand, "a request has no `command`"),
     ];
-    assert_each_text(&rt, rt.alloc(), &causes)
+    assert_each_display_text(&rt, rt.alloc(), &causes)
 }
 
 fn threads(alloc: Global) -> Result<ClientRequest, AllocError> {
@@ -177,11 +183,11 @@ fn what_is_written_is_read_back(rt: HostRuntime) -> Result<(), Fail> {
             return Ok(());
         };
         let value = Value::from_slice(rt.alloc(), &content)?;
-        let seq = member_number(&value, "seq").unwrap_or(0);
+        let seq = member_as_number(&value, "seq").unwrap_or(0);
         seqs = seqs.saturating_add(seq);
         assert!(rt; read_request(rt.alloc(), &content).is_err());
         if let Some(body) = value.get("body") {
-            assert_eq!(rt; member_text(body, "text"), Some("a\n\u{1F600} \\ \""));
+            assert_eq!(rt; member_as_text(body, "text"), Some("a\n\u{1F600} \\ \""));
         }
     }
     assert_eq!(rt; seqs, 3);

@@ -1,10 +1,10 @@
 //! The moves of an editor, over a program with calls and one that stores, and where the words of a line are.
 
-use crate::common::{CALLS_PROGRAM, assert_each_equal, assert_same, lab_after_steps};
+use crate::common::{CALLS_PROGRAM, assert_each_equal, assert_equal_values, lab_after_steps};
 use ga_dap_breakpoints::{
     Breakpoint, Granularity, HaltConditions, HaltReason, HitCondition, MoveResult, StepMove,
-    Watched, breakpoint_of_address, breakpoint_of_line, continue_run, continue_step,
-    count_kept_hits, reverse_to_breakpoint, step_back, step_back_line,
+    WatchedAction, breakpoint_of_address, breakpoint_of_line, count_hits_in_history,
+    make_continue_slice, make_step_slice, reverse_to_breakpoint, step_back, step_back_line,
 };
 use ga_dap_views::SlotAddress;
 use ga_debug_info::{DebugInfo, SlotWord};
@@ -22,12 +22,12 @@ fn each_hit<'b>(lab: &Lab, breakpoints: &'b [Breakpoint]) -> HaltConditions<'b> 
     HaltConditions {
         breakpoints,
         stops: true,
-        tally: count_kept_hits(lab, &[]),
+        tally: count_hits_in_history(lab, &[]),
     }
 }
 
 /// A breakpoint of node 000.
-fn watching(watched: Watched) -> Breakpoint {
+fn watching(watched: WatchedAction) -> Breakpoint {
     Breakpoint {
         node: NodeId::new(0),
         watched,
@@ -37,19 +37,26 @@ fn watching(watched: Watched) -> Breakpoint {
 }
 
 /// The second `dup` of `quad` is come to.
-const SECOND_DUP: Watched = Watched::ArrivesAtSlot(SlotAddress { cell: 5, slot: 2 });
+const SECOND_DUP: WatchedAction = WatchedAction::ArrivesAtSlot(SlotAddress { cell: 5, slot: 2 });
 
 /// A move of node 000 by lines, with no breakpoint, ends after this number of events.
 fn moves(rt: &impl Abort, lab: &mut Lab, notes: &DebugInfo, mut by: StepMove, wanted: u64) {
     let halts = each_hit(lab, &[]);
-    let went = continue_step(lab, Schedule::round_robin(), &mut by, notes, halts, 100);
-    assert_same(rt, &went.events, &wanted);
-    assert_same(rt, &is_moved(went), &true);
+    let went = make_step_slice(
+        lab,
+        Schedule::round_robin_schedule(),
+        &mut by,
+        notes,
+        halts,
+        100,
+    );
+    assert_equal_values(rt, &went.events, &wanted);
+    assert_equal_values(rt, &is_moved(went), &true);
 }
 
 fn is_moved(went: MoveResult) -> bool {
     match went.halt {
-        HaltReason::Moved(_) => true,
+        HaltReason::CompletedMove(_) => true,
         _ => false,
     }
 }
@@ -57,7 +64,7 @@ fn is_moved(went: MoveResult) -> bool {
 /// The place of the breakpoint by which a move ended.
 fn hit_by(went: MoveResult) -> Option<usize> {
     match went.halt {
-        HaltReason::Hit { which, .. } => Some(which),
+        HaltReason::HitBreakpoint { which, .. } => Some(which),
         _ => None,
     }
 }
@@ -72,7 +79,7 @@ fn lines_are_stepped_in(rt: HostRuntime) -> Result<(), Fail> {
         moves(&rt, &mut lab, &notes, line, wanted);
     }
     // The node is taken back over the call of `quad`.
-    assert_same(&rt, &step_back_line(&mut lab, &notes, node), &9);
+    assert_equal_values(&rt, &step_back_line(&mut lab, &notes, node), &9);
     let over = StepMove::next(&lab, node, Granularity::Line);
     moves(&rt, &mut lab, &notes, over, 9);
     let step = StepMove::step_in(&lab, node, Granularity::Instruction);
@@ -89,7 +96,7 @@ fn lines_are_stepped_in(rt: HostRuntime) -> Result<(), Fail> {
 fn calls_are_stepped_out_of(rt: HostRuntime) -> Result<(), Fail> {
     let node = NodeId::new(0);
     let (mut lab, notes) = lab_after_steps(&rt, rt.alloc(), CALLS_PROGRAM, 0)?;
-    assert_same(&rt, &StepMove::step_out(&lab, node), &None);
+    assert_equal_values(&rt, &StepMove::step_out(&lab, node), &None);
     for wanted in [3, 2] {
         let line = StepMove::step_in(&lab, node, Granularity::Line);
         moves(&rt, &mut lab, &notes, line, wanted);
@@ -108,17 +115,17 @@ fn slices_stop_at_a_breakpoint(rt: HostRuntime) -> Result<(), Fail> {
     let Some(on_line) = breakpoint_of_line(&notes, 10) else {
         panic!(&rt; "line 10 has code");
     };
-    assert_same(&rt, &on_line.breakpoint, &watching(SECOND_DUP));
-    assert_same(&rt, &on_line.line, &10);
+    assert_equal_values(&rt, &on_line.breakpoint, &watching(SECOND_DUP));
+    assert_equal_values(&rt, &on_line.line, &10);
     let breakpoints = [on_line.breakpoint];
     let halts = each_hit(&lab, &breakpoints);
-    let slice = continue_run(&mut lab, Schedule::greedy(), halts, 5);
-    assert_same(&rt, &slice.halt, &HaltReason::Cut);
-    let hit = continue_run(&mut lab, slice.schedule, halts, 100);
-    assert_same(&rt, &hit.events, &3);
-    assert_same(&rt, &hit_by(hit), &Some(0));
-    let again = continue_run(&mut lab, hit.schedule, halts, 100);
-    assert_same(&rt, &again.events, &18);
+    let slice = make_continue_slice(&mut lab, Schedule::greedy_schedule(), halts, 5);
+    assert_equal_values(&rt, &slice.halt, &HaltReason::SliceEnded);
+    let hit = make_continue_slice(&mut lab, slice.schedule, halts, 100);
+    assert_equal_values(&rt, &hit.events, &3);
+    assert_equal_values(&rt, &hit_by(hit), &Some(0));
+    let again = make_continue_slice(&mut lab, hit.schedule, halts, 100);
+    assert_equal_values(&rt, &again.events, &18);
     Ok(())
 }
 
@@ -133,19 +140,19 @@ fn each_third_hit_is_stopped_at(rt: HostRuntime) -> Result<(), Fail> {
     };
     let third = [Breakpoint {
         condition: Some(ten),
-        hits: Some(HitCondition::Each(3)),
+        hits: Some(HitCondition::EachMultipleOf(3)),
         ..watching(SECOND_DUP)
     }];
     let mut halts = each_hit(&lab, &third);
     // The second `dup` is come to by event 8, and then by each 18th.
-    let hit = continue_run(&mut lab, Schedule::greedy(), halts, 100);
-    assert_same(&rt, &hit.events, &44);
+    let hit = make_continue_slice(&mut lab, Schedule::greedy_schedule(), halts, 100);
+    assert_equal_values(&rt, &hit.events, &44);
     halts.tally = hit.tally;
-    let again = continue_run(&mut lab, hit.schedule, halts, 100);
-    assert_same(&rt, &again.events, &54);
-    assert_same(&rt, &reverse_to_breakpoint(&mut lab, node, &third), &54);
-    assert_same(&rt, &count_kept_hits(&lab, &third).counts[0], &3);
-    assert_same(&rt, &reverse_to_breakpoint(&mut lab, node, &third), &44);
+    let again = make_continue_slice(&mut lab, hit.schedule, halts, 100);
+    assert_equal_values(&rt, &again.events, &54);
+    assert_equal_values(&rt, &reverse_to_breakpoint(&mut lab, node, &third), &54);
+    assert_equal_values(&rt, &count_hits_in_history(&lab, &third).counts[0], &3);
+    assert_equal_values(&rt, &reverse_to_breakpoint(&mut lab, node, &third), &44);
     Ok(())
 }
 
@@ -156,16 +163,16 @@ fn a_store_is_stopped_at(rt: HostRuntime) -> Result<(), Fail> {
     let Some(main) = breakpoint_of_address(node, 0) else {
         panic!(&rt; "address 0 is a cell");
     };
-    let breakpoints = [watching(Watched::Writes(9)), main];
+    let breakpoints = [watching(WatchedAction::WritesWatchedCell(9)), main];
     let halts = each_hit(&lab, &breakpoints);
     // The node is at address 0 when loaded, and arrives there by its first fetch.
-    let first = continue_run(&mut lab, Schedule::greedy(), halts, 100);
-    assert_same(&rt, &first.events, &1);
-    assert_same(&rt, &hit_by(first), &Some(1));
-    let hit = continue_run(&mut lab, first.schedule, halts, 100);
-    assert_same(&rt, &hit.events, &6);
-    assert_same(&rt, &hit_by(hit), &Some(0));
-    assert_same(&rt, &lab.memory(node, 9).get(), &7);
+    let first = make_continue_slice(&mut lab, Schedule::greedy_schedule(), halts, 100);
+    assert_equal_values(&rt, &first.events, &1);
+    assert_equal_values(&rt, &hit_by(first), &Some(1));
+    let hit = make_continue_slice(&mut lab, first.schedule, halts, 100);
+    assert_equal_values(&rt, &hit.events, &6);
+    assert_equal_values(&rt, &hit_by(hit), &Some(0));
+    assert_equal_values(&rt, &lab.memory(node, 9).get(), &7);
     Ok(())
 }
 
@@ -175,18 +182,18 @@ fn steps_are_taken_back(rt: HostRuntime) -> Result<(), Fail> {
     let node = NodeId::new(0);
     let (mut lab, notes) = lab_after_steps(&rt, alloc, CALLS_PROGRAM, 14)?;
     // To the fetch of `2* ;`, then over the call of `quad` to that of its line, then before the call of `double`.
-    assert_same(&rt, &step_back_line(&mut lab, &notes, node), &2);
-    assert_same(&rt, &step_back_line(&mut lab, &notes, node), &9);
-    assert_same(&rt, &step_back(&mut lab, node), &1);
-    assert_same(&rt, &lab.steps(node), &2);
+    assert_equal_values(&rt, &step_back_line(&mut lab, &notes, node), &2);
+    assert_equal_values(&rt, &step_back_line(&mut lab, &notes, node), &9);
+    assert_equal_values(&rt, &step_back(&mut lab, node), &1);
+    assert_equal_values(&rt, &lab.steps(node), &2);
     // Cell 05 has two lines: to its slot 2, and to the call of `quad`.
     let (mut lab, notes) = lab_after_steps(&rt, alloc, CALLS_PROGRAM, 10)?;
-    assert_same(&rt, &step_back_line(&mut lab, &notes, node), &2);
-    assert_same(&rt, &step_back_line(&mut lab, &notes, node), &3);
+    assert_equal_values(&rt, &step_back_line(&mut lab, &notes, node), &2);
+    assert_equal_values(&rt, &step_back_line(&mut lab, &notes, node), &3);
     let (mut lab, _) = lab_after_steps(&rt, alloc, CALLS_PROGRAM, 14)?;
-    let double = watching(Watched::ArrivesAtSlot(SlotAddress { cell: 3, slot: 0 }));
-    assert_same(&rt, &reverse_to_breakpoint(&mut lab, node, &[double]), &11);
-    assert_same(&rt, &reverse_to_breakpoint(&mut lab, node, &[double]), &3);
+    let double = watching(WatchedAction::ArrivesAtSlot(SlotAddress { cell: 3, slot: 0 }));
+    assert_equal_values(&rt, &reverse_to_breakpoint(&mut lab, node, &[double]), &11);
+    assert_equal_values(&rt, &reverse_to_breakpoint(&mut lab, node, &[double]), &3);
     Ok(())
 }
 
@@ -205,9 +212,9 @@ fn found(word: Option<SlotWord>) -> Option<(u8, usize, usize, u32, u32)> {
 fn lines_have_words(rt: HostRuntime) -> Result<(), Fail> {
     let (_, notes) = lab_after_steps(&rt, rt.alloc(), LONG_LINE, 0)?;
     let words = [
-        found(notes.first_word(1)),
-        found(notes.first_word(3)),
-        found(notes.first_word(4)),
+        found(notes.find_first_slot_word_from_line(1)),
+        found(notes.find_first_slot_word_from_line(3)),
+        found(notes.find_first_slot_word_from_line(4)),
     ];
     let wanted = [Some((0, 0, 0, 2, 10)), Some((2, 0, 0, 3, 2)), None];
     assert_each_equal(&rt, &words, &wanted);

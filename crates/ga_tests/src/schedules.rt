@@ -1,6 +1,6 @@
 //! The random schedule: in a long run, nodes that always have an event make about as many as each other.
 
-use crate::common::{assert_same, lab_of_image};
+use crate::common::{assert_equal_values, lab_of_image};
 use ga_grid::NodeId;
 use ga_scheduler::{Schedule, run_schedule};
 use std::alloc::Global;
@@ -19,8 +19,8 @@ fn near(rt: &impl Abort, steps: u32) {
 /// Of 20000 events by this seed each of the four nodes makes about a quarter.
 fn is_fair(rt: &impl Abort, alloc: Global, seed: u64) -> Result<(), Fail> {
     let mut lab = lab_of_image(alloc, LOOPS, 20_000)?;
-    let ran = run_schedule(&mut lab, Schedule::random(seed), 20_000, &[]);
-    assert_same(rt, &ran.events, &20_000);
+    let ran = run_schedule(&mut lab, Schedule::random_schedule(seed), 20_000, &[]);
+    assert_equal_values(rt, &ran.events, &20_000);
     near(rt, lab.steps(NodeId::new(18)));
     near(rt, lab.steps(NodeId::new(19)));
     near(rt, lab.steps(NodeId::new(20)));

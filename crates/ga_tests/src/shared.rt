@@ -2,12 +2,12 @@
 
 ghost use Rattle.std.specs.Prelude.{◌≡◌, ◌<◌, ◌^◌, All, IfOk, vec_len};
 
-use crate::common::{PAIR_PROGRAM, assert_same};
+use crate::common::{PAIR_PROGRAM, assert_equal_values};
 use ga_grid::NodeId;
 use ga_image::parse;
 use ga_shared::{
-    Call, CallAnswer, CallGate, CloseFault, ClosedLab, LogEntry, OpenGate, Receipt, SharedChip,
-    WorkerSeat, race, receipts_match,
+    Call, CallAnswer, CallHooks, CallReceipt, CloseFault, LogEntry, NoEffectCallHooks, SharedLab,
+    UnsharedLab, WorkerSeat, race, receipts_match_log,
 };
 use std::alloc::Global;
 use std::marker::Brand;
@@ -44,17 +44,17 @@ fn sixteen_lists(alloc: Global) -> Result<Vec<Vec<Call>>, Fail>
 }
 
 /// How many calls are in the log, and how many events the lab keeps and has made.
-fn counts(rt: &impl Abort, closed: &ClosedLab, calls: usize, kept: u32, made: u64) {
-    assert_same(rt, &closed.log.len(), &calls);
+fn counts(rt: &impl Abort, closed: &UnsharedLab, calls: usize, kept: u32, made: u64) {
+    assert_equal_values(rt, &closed.log.len(), &calls);
     let counts = closed.lab.counts();
-    assert_same(rt, &(counts.kept, counts.made), &(kept, made));
+    assert_equal_values(rt, &(counts.kept, counts.made), &(kept, made));
 }
 
 /// The race of two workers, each of whom makes four steps of its node, past a gate.
-fn raced<G: CallGate + Sync, R: Threads + Wait + Sync + AllocGlobal>(
+fn raced<G: CallHooks + Sync, R: Threads + Wait + Sync + AllocGlobal>(
     rt: &R,
     gate: &G,
-) -> Result<ClosedLab, Fail> {
+) -> Result<UnsharedLab, Fail> {
     let alloc = rt.alloc();
     let lists = two_lists(alloc)?;
     let closed = race(rt, alloc, parse(alloc, PAIR_PROGRAM)?, 1000000, lists, gate)?;
@@ -64,7 +64,7 @@ fn raced<G: CallGate + Sync, R: Threads + Wait + Sync + AllocGlobal>(
 // The race that reports eight calls, whatever the schedule.
 #[test]
 fn close_always_disagrees(rt: HostRuntime) -> Result<(), Fail> {
-    let closed = raced(&rt, &OpenGate)?;
+    let closed = raced(&rt, &NoEffectCallHooks)?;
     counts(&rt, &closed, 8, 8, 8);
     Ok(())
 }
@@ -88,7 +88,7 @@ struct Holds {
     has_failed: AtomicBool,
 }
 
-impl CallGate for Holds {
+impl CallHooks for Holds {
     fn before(&self, worker: u32, call: u32) {
         if worker == self.held && call == 1 {
             hold(&self.is_answered, &self.has_failed);
@@ -149,7 +149,7 @@ impl Told {
     }
 }
 
-impl CallGate for Told {
+impl CallHooks for Told {
     fn before(&self, worker: u32, call: u32) {
         self.tell(worker, call, false);
     }
@@ -176,8 +176,8 @@ fn gates_are_told_of_each_call(rt: HostRuntime) -> Result<(), Fail> {
         &gate,
     )?;
     assert!(rt; !gate.has_failed.load(Ordering::SeqCst));
-    assert_same(&rt, &gate.first.load(Ordering::SeqCst), &240);
-    assert_same(&rt, &gate.last.load(Ordering::SeqCst), &240);
+    assert_equal_values(&rt, &gate.first.load(Ordering::SeqCst), &240);
+    assert_equal_values(&rt, &gate.last.load(Ordering::SeqCst), &240);
     Ok(())
 }
 
@@ -189,7 +189,7 @@ struct OneFirst {
     has_failed: AtomicBool,
 }
 
-impl CallGate for OneFirst {
+impl CallHooks for OneFirst {
     fn before(&self, worker: u32, call: u32) {
         if worker == 1 && call == 1 {
             hold(&self.is_told, &self.has_failed);
@@ -208,10 +208,10 @@ impl CallGate for OneFirst {
 }
 
 /// The workers of a log, call by call.
-fn is_log_of(rt: &impl Abort, closed: &ClosedLab, workers: &[u32]) {
-    assert_same(rt, &closed.log.len(), &workers.len());
+fn is_log_of(rt: &impl Abort, closed: &UnsharedLab, workers: &[u32]) {
+    assert_equal_values(rt, &closed.log.len(), &workers.len());
     for (entry, worker) in closed.log.iter().zip(workers) {
-        assert_same(rt, &entry.worker, worker);
+        assert_equal_values(rt, &entry.worker, worker);
     }
 }
 
@@ -233,12 +233,12 @@ fn after_four<L: Ledger, R: Wait>(
     rt: &R,
     alloc: Global,
     blank: Blank,
-) -> Result<(SharedChip<L>, Vec<WorkerSeat<L>>), Fail>
+) -> Result<(SharedLab<L>, Vec<WorkerSeat<L>>), Fail>
     requires ledger { (blank.name ≡ L.name) × (blank.parts ≡ L.parts) }
     requires parts { blank.parts ≡ 2 }
     ensures { IfOk result (λ made. vec_len made.1 ≡ 2) }
 {
-    let (shared, mut seats) = SharedChip::<L>::new(
+    let (shared, mut seats) = SharedLab::<L>::new(
         alloc,
         blank,
         parse(alloc, PAIR_PROGRAM)?,
@@ -257,15 +257,15 @@ fn after_four<L: Ledger, R: Wait>(
 }
 
 /// The log of two workers, of whom each made two steps of its node: 0, 1, 0, 1.
-fn log_of_four<L: Ledger, R: Wait>(rt: &R, alloc: Global, blank: Blank) -> Result<ClosedLab, Fail>
+fn log_of_four<L: Ledger, R: Wait>(rt: &R, alloc: Global, blank: Blank) -> Result<UnsharedLab, Fail>
     requires ledger { (blank.name ≡ L.name) × (blank.parts ≡ L.parts) }
     requires parts { blank.parts ≡ 2 }
 {
     let (shared, seats) = after_four::<L, R>(rt, alloc, blank)?;
     match shared.close(seats) {
         Ok(closed) => Ok(closed),
-        Err(CloseFault::Disagree { .. }) => Err(Fail::from("disagree")),
-        Err(CloseFault::Missing { .. }) => Err(Fail::from("missing")),
+        Err(CloseFault::LogDisagrees { .. }) => Err(Fail::from("disagree")),
+        Err(CloseFault::SeatsMissing { .. }) => Err(Fail::from("missing")),
     }
 }
 
@@ -276,7 +276,7 @@ fn after_change<L: Ledger, R: Wait>(
     alloc: Global,
     blank: Blank,
     change: u32,
-) -> Result<(Option<u32>, ClosedLab), Fail>
+) -> Result<(Option<u32>, UnsharedLab), Fail>
     requires ledger { (blank.name ≡ L.name) × (blank.parts ≡ L.parts) }
     requires parts { blank.parts ≡ 2 }
 {
@@ -294,9 +294,9 @@ fn after_change<L: Ledger, R: Wait>(
         }
     }
     match shared.close(seats) {
-        Err(CloseFault::Disagree { worker, closed }) => Ok((worker, closed)),
+        Err(CloseFault::LogDisagrees { worker, closed }) => Ok((worker, closed)),
         Ok(_) => Err(Fail::from("closed")),
-        Err(CloseFault::Missing { .. }) => Err(Fail::from("missing")),
+        Err(CloseFault::SeatsMissing { .. }) => Err(Fail::from("missing")),
     }
 }
 
@@ -321,22 +321,22 @@ fn changed_receipts(rt: HostRuntime) -> Result<(), Fail> {
 
 /// What is handed back where a seat is missing.
 fn handed_back<L: Ledger>(
-    shared: SharedChip<L>,
+    shared: SharedLab<L>,
     seats: Vec<WorkerSeat<L>>,
-) -> Option<(SharedChip<L>, Vec<WorkerSeat<L>>)> {
+) -> Option<(SharedLab<L>, Vec<WorkerSeat<L>>)> {
     match shared.close(seats) {
-        Err(CloseFault::Missing { shared, seats }) => Some((shared, seats)),
-        Err(CloseFault::Disagree { .. }) => None,
+        Err(CloseFault::SeatsMissing { shared, seats }) => Some((shared, seats)),
+        Err(CloseFault::LogDisagrees { .. }) => None,
         Ok(_) => None,
     }
 }
 
 /// Whether closing with these seats ends well.
-fn closes<L: Ledger>(shared: SharedChip<L>, seats: Vec<WorkerSeat<L>>) -> bool {
+fn closes<L: Ledger>(shared: SharedLab<L>, seats: Vec<WorkerSeat<L>>) -> bool {
     match shared.close(seats) {
         Ok(_) => true,
-        Err(CloseFault::Disagree { .. }) => false,
-        Err(CloseFault::Missing { .. }) => false,
+        Err(CloseFault::LogDisagrees { .. }) => false,
+        Err(CloseFault::SeatsMissing { .. }) => false,
     }
 }
 
@@ -370,9 +370,9 @@ fn no_receipts(rt: HostRuntime) {
         call: Call::Step(NodeId::new(0)),
         answer: CallAnswer::Refused(1),
     }];
-    let none: [Receipt; 0] = [];
-    assert!(rt; receipts_match(log.as_slice(), 0, none.as_slice()));
-    assert!(rt; !receipts_match(log.as_slice(), 1, none.as_slice()));
+    let none: [CallReceipt; 0] = [];
+    assert!(rt; receipts_match_log(log.as_slice(), 0, none.as_slice()));
+    assert!(rt; !receipts_match_log(log.as_slice(), 1, none.as_slice()));
     let empty: [LogEntry; 0] = [];
-    assert!(rt; receipts_match(empty.as_slice(), 1, none.as_slice()));
+    assert!(rt; receipts_match_log(empty.as_slice(), 1, none.as_slice()));
 }

@@ -1,7 +1,7 @@
 //! What some bytes begin with; messages taken from inputs that come in pieces, end, and fail; a text that is written whole or
 //! not. Streams of the program that fail are in `.ci/io_faults` at the top.
 
-use crate::common::{assert_each_equal, assert_each_text, assert_same};
+use crate::common::{assert_each_display_text, assert_each_equal, assert_equal_values};
 use ga_dap_protocol::{
     CONTENT_LIMIT, FrameError, FramePrefix, Inbox, NextMessage, parse_frame_prefix, push_frame,
 };
@@ -30,60 +30,63 @@ const FRONTS: &[(&[u8], FramePrefix)] = &[
         b"Content-Length: 0000002\r\n\r\n{}",
         FramePrefix::Message { start: 27, end: 29 },
     ),
-    (b"Content-Length: 131072\r\n\r\n{}", FramePrefix::Part),
+    (
+        b"Content-Length: 131072\r\n\r\n{}",
+        FramePrefix::PartialMessage,
+    ),
     (
         b"Content-Length: 131073",
-        FramePrefix::Wrong(FrameError::TooLong),
+        FramePrefix::NoMessage(FrameError::TooLong),
     ),
     (
         b"Content-Length: 9999999999",
-        FramePrefix::Wrong(FrameError::TooLong),
+        FramePrefix::NoMessage(FrameError::TooLong),
     ),
     (
         b"Content-Length: 00000002\r\n\r\n{}",
-        FramePrefix::Wrong(FrameError::ManyDigits),
+        FramePrefix::NoMessage(FrameError::TooManyDigits),
     ),
     (
         b"Content-Length: \r\n\r\n",
-        FramePrefix::Wrong(FrameError::NoDigit),
+        FramePrefix::NoMessage(FrameError::NoDigit),
     ),
     (
         b"Content-Length: -2\r\n\r\n{}",
-        FramePrefix::Wrong(FrameError::NoDigit),
+        FramePrefix::NoMessage(FrameError::NoDigit),
     ),
     (
         b"Content-Length:  2\r\n\r\n{}",
-        FramePrefix::Wrong(FrameError::NoDigit),
+        FramePrefix::NoMessage(FrameError::NoDigit),
     ),
     (
         b"Content-Length: 2 \r\n\r\n{}",
-        FramePrefix::Wrong(FrameError::HeaderEnd),
+        FramePrefix::NoMessage(FrameError::MissingHeaderEnd),
     ),
     (
         b"Content-Length: 2\n\n{}",
-        FramePrefix::Wrong(FrameError::HeaderEnd),
+        FramePrefix::NoMessage(FrameError::MissingHeaderEnd),
     ),
     (
         b"Content-Length: 2\r\nContent-Type: a\r\n\r\n{}",
-        FramePrefix::Wrong(FrameError::HeaderEnd),
+        FramePrefix::NoMessage(FrameError::MissingHeaderEnd),
     ),
     (
         b"Content-Length:2\r\n\r\n{}",
-        FramePrefix::Wrong(FrameError::Field),
+        FramePrefix::NoMessage(FrameError::WrongHeaderField),
     ),
     (
         b"content-length: 2\r\n\r\n{}",
-        FramePrefix::Wrong(FrameError::Field),
+        FramePrefix::NoMessage(FrameError::WrongHeaderField),
     ),
     (
         b"Content-Type: a\r\nContent-Length: 2\r\n\r\n{}",
-        FramePrefix::Wrong(FrameError::Field),
+        FramePrefix::NoMessage(FrameError::WrongHeaderField),
     ),
     (
         b"\nContent-Length: 2\r\n\r\n{}",
-        FramePrefix::Wrong(FrameError::Field),
+        FramePrefix::NoMessage(FrameError::WrongHeaderField),
     ),
-    (b"{}", FramePrefix::Wrong(FrameError::Field)),
+    (b"{}", FramePrefix::NoMessage(FrameError::WrongHeaderField)),
 ];
 
 #[test]
@@ -99,9 +102,13 @@ fn beginnings_ask_for_more(rt: HostRuntime) {
     let message = b"Content-Length: 12\r\n\r\n{\"seq\":1234}";
     for count in 0..message.len() {
         let (part, _) = message.as_slice().split_at(count);
-        assert_eq!(rt; parse_frame_prefix(part), FramePrefix::Part, "at {count}");
+        assert_eq!(rt;
+            parse_frame_prefix(part),
+            FramePrefix::PartialMessage,
+            "at {count}"
+        );
     }
-    assert_same(
+    assert_equal_values(
         &rt,
         &parse_frame_prefix(message),
         &FramePrefix::Message { start: 22, end: 34 },
@@ -119,14 +126,14 @@ fn the_bound_is_within(rt: HostRuntime) -> Result<(), Fail> {
         start: 26,
         end: 26 + 131_072,
     };
-    assert_same(&rt, &parse_frame_prefix(&text), &whole);
+    assert_equal_values(&rt, &parse_frame_prefix(&text), &whole);
     content.push(b' ')?;
     text.clear();
     push_frame(rt.alloc(), &mut text, &content)?;
-    assert_same(
+    assert_equal_values(
         &rt,
         &parse_frame_prefix(&text),
-        &FramePrefix::Wrong(FrameError::TooLong),
+        &FramePrefix::NoMessage(FrameError::TooLong),
     );
     Ok(())
 }
@@ -136,22 +143,22 @@ fn the_bound_is_within(rt: HostRuntime) -> Result<(), Fail> {
 fn causes_are_said(rt: HostRuntime) -> Result<(), Fail> {
     let causes = [
         (
-            FrameError::Field,
+            FrameError::WrongHeaderField,
             "the header does not begin with `Content-Length: `",
         ),
         (FrameError::NoDigit, "`Content-Length` is no number"),
         (FrameError::TooLong, "`Content-Length` is more than 131072"),
         (
-            FrameError::ManyDigits,
+            FrameError::TooManyDigits,
             "`Content-Length` has more than seven digits",
         ),
         (
-            FrameError::HeaderEnd,
+            FrameError::MissingHeaderEnd,
             "the header does not end behind `Content-Length`",
         ),
-        (FrameError::Cut, "the input ends within a message"),
+        (FrameError::CutShort, "the input ends within a message"),
     ];
-    assert_each_text(&rt, rt.alloc(), &causes)
+    assert_each_display_text(&rt, rt.alloc(), &causes)
 }
 
 /// Returns at most a given number of bytes a call, and fails at one call.
@@ -205,7 +212,7 @@ fn taken(alloc: Global, mut reader: Pieces) -> Result<(Vec<u8>, Ending), AllocEr
                 contents.push(b'\n')?;
             }
             NextMessage::End => return Ok((contents, Ending::End)),
-            NextMessage::Wrong(why) => return Ok((contents, Ending::Wrong(why))),
+            NextMessage::NoMessage(why) => return Ok((contents, Ending::Wrong(why))),
             NextMessage::Failed => return Ok((contents, Ending::Failed)),
         }
     }
@@ -223,7 +230,7 @@ fn assert_taken(
     for most in 1..=text.len() + 1 {
         let got = taken(alloc, in_pieces(text, most))?;
         assert_each_equal(rt, &got.0, contents);
-        assert_same(rt, &got.1, &ending);
+        assert_equal_values(rt, &got.1, &ending);
     }
     Ok(())
 }
@@ -241,7 +248,10 @@ fn an_input_in_any_pieces_is_the_same_messages(rt: HostRuntime) -> Result<(), Fa
 #[test]
 fn a_broken_frame_is_told_behind_what_is_whole(rt: HostRuntime) -> Result<(), Fail> {
     let cases: [(&'static [u8], FrameError); 4] = [
-        (b"Content-Length: 2\r\n\r\n{}\n", FrameError::Field),
+        (
+            b"Content-Length: 2\r\n\r\n{}\n",
+            FrameError::WrongHeaderField,
+        ),
         (
             b"Content-Length: 2\r\n\r\n{}Content-Length: x",
             FrameError::NoDigit,
@@ -252,7 +262,7 @@ fn a_broken_frame_is_told_behind_what_is_whole(rt: HostRuntime) -> Result<(), Fa
         ),
         (
             b"Content-Length: 2\r\n\r\n{}Content-Length: 2\r\n\r\n{",
-            FrameError::Cut,
+            FrameError::CutShort,
         ),
     ];
     for (text, why) in cases {
@@ -336,7 +346,7 @@ fn a_write_or_the_flush_fails(rt: HostRuntime) {
         };
         let is_written = write_all(&mut writer, b"twelve bytes").is_ok();
         let wanted = (calls, taken, fails_at > 4);
-        assert_same(&rt, &(writer.calls, writer.taken, is_written), &wanted);
+        assert_equal_values(&rt, &(writer.calls, writer.taken, is_written), &wanted);
     }
 }
 
@@ -352,6 +362,6 @@ fn a_long_text_is_flushed(rt: HostRuntime) -> Result<(), Fail> {
     };
     let is_written = write_all(&mut writer, &text).is_ok();
     let wanted = (20_001, 100_000, true);
-    assert_same(&rt, &(writer.calls, writer.taken, is_written), &wanted);
+    assert_equal_values(&rt, &(writer.calls, writer.taken, is_written), &wanted);
     Ok(())
 }

@@ -2,16 +2,16 @@
 -- digits.
 use Rattle.std.proofs.Common.{◌≡◌, ℕ, ◌+◌, ◌<◌, ◌≤◌, ◌^◌, ◌/◌, ◌%◌, [], ◌∷◌, ◌++◌, decimal, length, length-append, ap, ◌∙◌, arith, List, refl, ◌≢◌, ◌*◌, Bool, true, false, cond, Option, Some, None, Result, Ok, Err, zero, suc, get_or, subst, inl, inr, eq-zero-or-pos, ◌-◌}
 use Rattle.std.proofs.lemmas.Fmt.{decimal_step, decimal_digit, length-decimal-le}
-use Rattle.ga_text.specs.inner.{four_digits}
+use Rattle.ga_text.specs.inner.{four_decimal_digits}
 use Rattle.std.specs.Prelude.{MatchResult, ◌==◌, slice_index, ◌&&◌}
 use Rattle.std.specs.Option.{option_and_then}
 use Rattle.std.proofs.lemmas.Bool.{ne_eqb, eqb-false}
 use Rattle.hex.specs.declared.error.FromHexError.{FromHexError}
 use Rattle.hex.specs.declared.error.FromHexError.TheVariants.{OddLength, InvalidStringLength}
 use Rattle.hex.specs.Hex.{decode_pairs, decode_sized, digit_or_error, hex_digit_value, ◌>>=◌}
-use Rattle.ga_text.specs.Digits.{hex_byte_value, hex2_of}
+use Rattle.ga_text.specs.Digits.{hex_byte_value, two_hex_digits_text}
 use Rattle.std.proofs.lemmas.Bool.Decides.{nat_tests}
-use Rattle.ga_word.specs.Word.{hex_digit, hex6_of}
+use Rattle.ga_word.specs.Word.{hex_digit_at_place, hex_digits_of_word}
 use Rattle.ga_text.specs.declared.text.TheConstants.{DECIMAL, HEXADECIMAL, NAMES}
 
 -- a number of 64 bits has at most twenty digits
@@ -30,7 +30,7 @@ three_digits n big small =
     decimal_step n (omega arith) (omega arith)
     ∙ ap (λ (t : List ℕ). t ++ (48 + n % 10) ∷ []) (two_digits (n / 10) (omega arith) (omega arith) ∙ ap (λ (m : ℕ). (48 + m % 10) ∷ (48 + n / 10 % 10) ∷ []) front)
 
-pub four_alone : (n : ℕ) → 1000 ≤ n → n < 10000 → decimal n ≡ four_digits n
+pub four_alone : (n : ℕ) → 1000 ≤ n → n < 10000 → decimal n ≡ four_decimal_digits n
 four_alone n big small =
     let front : n / 10 / 100 ≡ n / 1000 = omega arith in
     let next : n / 10 / 10 ≡ n / 100 = omega arith in
@@ -40,7 +40,7 @@ four_alone n big small =
     ∙ ap (λ (m : ℕ). (48 + n / 1000 % 10) ∷ (48 + m % 10) ∷ (48 + n / 10 % 10) ∷ []) next)
 
 -- the last four digits come after the others
-pub four_more : (n : ℕ) → 10000 ≤ n → n < 2 ^ 64 → decimal n ≡ decimal (n / 10000) ++ four_digits (n % 10000)
+pub four_more : (n : ℕ) → 10000 ≤ n → n < 2 ^ 64 → decimal n ≡ decimal (n / 10000) ++ four_decimal_digits (n % 10000)
 four_more n big fits =
     let a : n / 10 / 10 / 10 / 10 ≡ n / 10000 = omega arith in
     let d1 : n % 10000 / 1000 % 10 ≡ n / 10 / 10 / 10 % 10 = omega arith in
@@ -64,7 +64,7 @@ four_more n big fits =
     four (x ∷ xs) a b c d = ap (λ (t : List ℕ). x ∷ t) (four xs a b c d)
 
 pub longer : (n : ℕ) → 10000 ≤ n → n < 2 ^ 64 → length (decimal n) ≡ length (decimal (n / 10000)) + 4
-longer n big fits = ap length (four_more n big fits) ∙ length-append (decimal (n / 10000)) (four_digits (n % 10000))
+longer n big fits = ap length (four_more n big fits) ∙ length-append (decimal (n / 10000)) (four_decimal_digits (n % 10000))
 
 -- so much is there before the last four digits
 pub shorter : (old new : List ℕ) (n : ℕ) → 10000 ≤ n → n < 2 ^ 64 → new ≡ old ++ decimal (n / 10000) → length new + 4 ≡ length old + length (decimal n)
@@ -151,11 +151,11 @@ pair_at table first second (suc count) n all below =
 pub decimal_pair : (n : ℕ) → n < 100 → (get_or DECIMAL (2 * n) 0 ≡ 48 + n / 10) × (get_or DECIMAL (2 * n + 1) 0 ≡ 48 + n % 10)
 decimal_pair n below = pair_at DECIMAL (λ m. 48 + m / 10) (λ m. 48 + m % 10) 100 n refl below
 
-pub hexadecimal_pair : (n : ℕ) → n < 256 → (get_or HEXADECIMAL (2 * n) 0 ≡ hex_digit n 1) × (get_or HEXADECIMAL (2 * n + 1) 0 ≡ hex_digit n 0)
-hexadecimal_pair n below = pair_at HEXADECIMAL (λ m. hex_digit m 1) (λ m. hex_digit m 0) 256 n refl below
+pub hexadecimal_pair : (n : ℕ) → n < 256 → (get_or HEXADECIMAL (2 * n) 0 ≡ hex_digit_at_place n 1) × (get_or HEXADECIMAL (2 * n + 1) 0 ≡ hex_digit_at_place n 0)
+hexadecimal_pair n below = pair_at HEXADECIMAL (λ m. hex_digit_at_place m 1) (λ m. hex_digit_at_place m 0) 256 n refl below
 
 -- six digits of a word are those of its three bytes
-pub three_bytes : (n : ℕ) → n < 2 ^ 18 → hex2_of (n / 65536) ++ hex2_of (n / 256 % 256) ++ hex2_of (n % 256) ≡ hex6_of n
+pub three_bytes : (n : ℕ) → n < 2 ^ 18 → two_hex_digits_text (n / 65536) ++ two_hex_digits_text (n / 256 % 256) ++ two_hex_digits_text (n % 256) ≡ hex_digits_of_word n
 three_bytes n below =
     let a : n / 65536 / 16 ^ 1 % 16 ≡ n / 16 ^ 5 % 16 = omega arith in
     let b : n / 65536 / 16 ^ 0 % 16 ≡ n / 16 ^ 4 % 16 = omega arith in

@@ -1,38 +1,38 @@
 -- Digits and the numbers that they give, both ways.
 use Rattle.std.proofs.Common.{◌≡◌, ◌≢◌, ℕ, zero, suc, ◌+◌, ◌<◌, List, [], ◌∷◌, length, take, drop, get_or, arith, ap, refl, ◌∙◌, add-one, ◌-◌, ◌*◌, ◌/◌, ◌%◌, ◌^◌, ◌≤◌, ◌⊎◌, inl, inr, Bool, true, false, cond, ◌&&◌, Option, Some, None, sym}
 use Rattle.std.proofs.lemmas.Bool.{ne_eqb}
-use Rattle.ga_text.specs.Lines.{lines_of, lines_with_first_byte}
+use Rattle.ga_text.specs.Lines.{lines_of_text, lines_with_added_front_byte}
 use Rattle.std.specs.Prelude.{nat_le, nat_lt, slice_index}
 use Rattle.std.specs.Char.{to_ascii_lowercase}
 use Rattle.std.specs.Str.{str_to_ascii_lowercase}
 use Rattle.std.proofs.lemmas.Bool.Decides.{nat_tests}
 use Rattle.hex.specs.Hex.{hex_digit_value, lower_digits}
 use Rattle.hex.proofs.HexLemmas.{IsDigits-lower_digits}
-use Rattle.ga_word.specs.Word.{hex_digit, hex6_of, hex6_value}
-use Rattle.ga_grid.specs.Grid.{decimal_digit, parse_node_name}
-use Rattle.ga_text.specs.Digits.{hex_byte_value, hex2_of, decimal3_of}
+use Rattle.ga_word.specs.Word.{hex_digit_at_place, hex_digits_of_word, six_hex_digits_value}
+use Rattle.ga_grid.specs.Grid.{decimal_digit, parse_decimal_name}
+use Rattle.ga_text.specs.Digits.{hex_byte_value, two_hex_digits_text, three_decimal_digits}
 use Rattle.ga_ports.specs.Steps.{◌>>=◌}
 
 -- ---- the first line feed of a text ends its first line
 
 -- any other byte belongs to the line
-pub past_byte : (b : ℕ) (text : List ℕ) → b ≢ 10 → lines_of (b ∷ text) ≡ lines_with_first_byte b (lines_of text)
+pub past_byte : (b : ℕ) (text : List ℕ) → b ≢ 10 → lines_of_text (b ∷ text) ≡ lines_with_added_front_byte b (lines_of_text text)
 past_byte b text other = rw (ne_eqb b 10 other) refl
 
 -- the first line ends before the first line feed
-pub at_feed : (text : List ℕ) (i : ℕ) → i < length text → ((k : ℕ) → k < i → get_or text k 0 ≢ 10) → get_or text i 0 ≡ 10 → lines_of text ≡ take i text ∷ lines_of (drop (i + 1) text)
+pub at_feed : (text : List ℕ) (i : ℕ) → i < length text → ((k : ℕ) → k < i → get_or text k 0 ≢ 10) → get_or text i 0 ≡ 10 → lines_of_text text ≡ take i text ∷ lines_of_text (drop (i + 1) text)
 at_feed [] i within none feed = absurd (omega arith)
 at_feed (b ∷ text) zero within none feed = rw feed refl
 at_feed (b ∷ text) (suc i) within none feed =
-    let again : lines_of text ≡ take i text ∷ lines_of (drop (i + 1) text) = at_feed text i (omega arith) (λ k below. none (suc k) (omega arith)) feed in
-    past_byte b text (none 0 (omega arith)) ∙ ap (lines_with_first_byte b) again ∙ rw (add-one, add-one) refl
+    let again : lines_of_text text ≡ take i text ∷ lines_of_text (drop (i + 1) text) = at_feed text i (omega arith) (λ k below. none (suc k) (omega arith)) feed in
+    past_byte b text (none 0 (omega arith)) ∙ ap (lines_with_added_front_byte b) again ∙ rw (add-one, add-one) refl
 
 -- without one the text is a line
-pub no_feed : (text : List ℕ) → 0 < length text → ((k : ℕ) → k < length text → get_or text k 0 ≢ 10) → lines_of text ≡ text ∷ []
+pub no_feed : (text : List ℕ) → 0 < length text → ((k : ℕ) → k < length text → get_or text k 0 ≢ 10) → lines_of_text text ≡ text ∷ []
 no_feed [] some none = absurd (omega arith)
 no_feed (b ∷ []) some none = past_byte b [] (none 0 (omega arith))
 no_feed (b ∷ c ∷ text) some none =
-    past_byte b (c ∷ text) (none 0 (omega arith)) ∙ ap (lines_with_first_byte b) (no_feed (c ∷ text) (omega arith) (λ k below. none (suc k) (omega arith)))
+    past_byte b (c ∷ text) (none 0 (omega arith)) ∙ ap (lines_with_added_front_byte b) (no_feed (c ∷ text) (omega arith) (λ k below. none (suc k) (omega arith)))
 
 -- a digit has the same value in either case
 same_value : (c : ℕ) → hex_digit_value c ≡ hex_digit_value (to_ascii_lowercase c)
@@ -108,7 +108,7 @@ six_equal : (a b c d e f a' b' c' d' e' f' : ℕ) → a ≡ a' → b ≡ b' → 
 six_equal a b c d e f a' b' c' d' e' f' p q r s t u = cc
 
 -- six digits that give a number are that number's
-pub word_spelled : (a b c d e f n : ℕ) → hex6_value (a ∷ b ∷ c ∷ d ∷ e ∷ f ∷ []) ≡ Some n → (n < 2 ^ 24) × (str_to_ascii_lowercase (a ∷ b ∷ c ∷ d ∷ e ∷ f ∷ []) ≡ hex6_of n)
+pub word_spelled : (a b c d e f n : ℕ) → six_hex_digits_value (a ∷ b ∷ c ∷ d ∷ e ∷ f ∷ []) ≡ Some n → (n < 2 ^ 24) × (str_to_ascii_lowercase (a ∷ b ∷ c ∷ d ∷ e ∷ f ∷ []) ≡ hex_digits_of_word n)
 word_spelled a b c d e f n is =
     let (u, v, w, x, y, z, ua, vb, wc, xd, ye, zf, whole) = stepped (hex_digit_value a) (hex_digit_value b) (hex_digit_value c) (hex_digit_value d) (hex_digit_value e) (hex_digit_value f) n is in
     let (u_small, a_is) = digit_spelled a u ua in
@@ -134,7 +134,7 @@ word_spelled a b c d e f n is =
     )
 
 -- the digits of a number give it back
-pub word_read : (text : List ℕ) (n : ℕ) → n < 2 ^ 24 → str_to_ascii_lowercase text ≡ hex6_of n → hex6_value text ≡ Some n
+pub word_read : (text : List ℕ) (n : ℕ) → n < 2 ^ 24 → str_to_ascii_lowercase text ≡ hex_digits_of_word n → six_hex_digits_value text ≡ Some n
 word_read [] n small is = cc
 word_read (a ∷ []) n small is = cc
 word_read (a ∷ b ∷ []) n small is = cc
@@ -142,12 +142,12 @@ word_read (a ∷ b ∷ c ∷ []) n small is = cc
 word_read (a ∷ b ∷ c ∷ d ∷ []) n small is = cc
 word_read (a ∷ b ∷ c ∷ d ∷ e ∷ []) n small is = cc
 word_read (a ∷ b ∷ c ∷ d ∷ e ∷ f ∷ []) n small is =
-    let first : to_ascii_lowercase a ≡ hex_digit n 5 = cc in
-    let second : to_ascii_lowercase b ≡ hex_digit n 4 = cc in
-    let third : to_ascii_lowercase c ≡ hex_digit n 3 = cc in
-    let fourth : to_ascii_lowercase d ≡ hex_digit n 2 = cc in
-    let fifth : to_ascii_lowercase e ≡ hex_digit n 1 = cc in
-    let sixth : to_ascii_lowercase f ≡ hex_digit n 0 = cc in
+    let first : to_ascii_lowercase a ≡ hex_digit_at_place n 5 = cc in
+    let second : to_ascii_lowercase b ≡ hex_digit_at_place n 4 = cc in
+    let third : to_ascii_lowercase c ≡ hex_digit_at_place n 3 = cc in
+    let fourth : to_ascii_lowercase d ≡ hex_digit_at_place n 2 = cc in
+    let fifth : to_ascii_lowercase e ≡ hex_digit_at_place n 1 = cc in
+    let sixth : to_ascii_lowercase f ≡ hex_digit_at_place n 0 = cc in
     let whole : six (n / 1048576 % 16) (n / 65536 % 16) (n / 4096 % 16) (n / 256 % 16) (n / 16 % 16) (n / 1 % 16) ≡ n = omega arith in
     rw (
       digit_read a _ (omega arith) first,
@@ -165,7 +165,7 @@ pair_stepped (Some a) None n is = cc
 pair_stepped (Some a) (Some b) n is = let same : a * 16 + b ≡ n = cc in (a, b, refl, refl, same)
 
 -- two digits that give a number are that number's
-pub cell_spelled : (a b n : ℕ) → hex_byte_value (a ∷ b ∷ []) ≡ Some n → (n < 256) × (str_to_ascii_lowercase (a ∷ b ∷ []) ≡ hex2_of n)
+pub cell_spelled : (a b n : ℕ) → hex_byte_value (a ∷ b ∷ []) ≡ Some n → (n < 256) × (str_to_ascii_lowercase (a ∷ b ∷ []) ≡ two_hex_digits_text n)
 unfolding hex_byte_value
 cell_spelled a b n is =
     let (u, v, ua, vb, whole) = pair_stepped (hex_digit_value a) (hex_digit_value b) n is in
@@ -176,7 +176,7 @@ cell_spelled a b n is =
     (omega arith, two_equal _ _ _ _ (a_is ∙ ap (slice_index lower_digits) first) (b_is ∙ ap (slice_index lower_digits) second))
 
 -- the digits of a number give it back
-pub cell_read : (a b n : ℕ) → n < 256 → to_ascii_lowercase a ≡ hex_digit n 1 → to_ascii_lowercase b ≡ hex_digit n 0 → hex_byte_value (a ∷ b ∷ []) ≡ Some n
+pub cell_read : (a b n : ℕ) → n < 256 → to_ascii_lowercase a ≡ hex_digit_at_place n 1 → to_ascii_lowercase b ≡ hex_digit_at_place n 0 → hex_byte_value (a ∷ b ∷ []) ≡ Some n
 unfolding hex_byte_value
 cell_read a b n small first second =
     let whole : n / 16 % 16 * 16 + n / 1 % 16 ≡ n = omega arith in
@@ -203,8 +203,8 @@ three_equal : (a b c x y z : ℕ) → a ≡ x → b ≡ y → c ≡ z → (a ∷
 three_equal a b c x y z p q r = cc
 
 -- three digits that give a number are that number's
-pub node_spelled : (text : List ℕ) (n : ℕ) → parse_node_name text ≡ Some n → (n < 1000) × (text ≡ decimal3_of n)
-unfolding parse_node_name
+pub node_spelled : (text : List ℕ) (n : ℕ) → parse_decimal_name text ≡ Some n → (n < 1000) × (text ≡ three_decimal_digits n)
+unfolding parse_decimal_name
 node_spelled [] n is = cc
 node_spelled (x ∷ []) n is = cc
 node_spelled (x ∷ y ∷ []) n is = cc
@@ -217,8 +217,8 @@ node_spelled (x ∷ y ∷ z ∷ []) n is =
 node_spelled (x ∷ y ∷ z ∷ w ∷ text) n is = cc
 
 -- the digits of a number give it back
-pub node_read : (n : ℕ) → n < 1000 → parse_node_name (decimal3_of n) ≡ Some n
-unfolding parse_node_name
+pub node_read : (n : ℕ) → n < 1000 → parse_decimal_name (three_decimal_digits n) ≡ Some n
+unfolding parse_decimal_name
 node_read n small =
     let whole : 100 * (n / 100) + 10 * (n / 10 % 10) + n % 10 ≡ n = omega arith in
     rw (decimal_read (n / 100) (omega arith), decimal_read (n / 10 % 10) (omega arith), decimal_read (n % 10) (omega arith)) (ap (λ (k : ℕ). Some k) whole)

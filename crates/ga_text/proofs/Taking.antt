@@ -3,17 +3,17 @@ use Rattle.std.specs.Prelude.{◌==◌, nat_le, nat_lt, option_map, slice_range}
 use Rattle.std.proofs.Common.{◌≡◌, ◌≢◌, ℕ, zero, suc, Bool, true, false, cond, ◌+◌, ◌<◌, List, [], ◌∷◌, ◌++◌, length, take, drop, get_or, Option, Some, None, arith, ap, refl, ◌∙◌, add-one, ◌-◌, ◌*◌, ◌/◌, ◌%◌, ◌^◌, ◌≤◌, ◌&&◌, decimal, sym, append_assoc, min, length-take, take-append-drop, drop-cons, Result, Ok, Err, rules}
 use Rattle.std.proofs.lemmas.Bool.{ne_eqb, eqb-true}
 use Rattle.std.specs.List.{AllByRecursion}
-use Rattle.ga_text.specs.Parsing.{split_at_space, with_prepended_byte, IsStepNumber, SpellsAddress, parse_node, u32_if_fits, with_decimal_digit, with_decimal_digits, parse_number}
+use Rattle.ga_text.specs.Parsing.{split_at_space, parts_with_prepended_byte, IsStepNumberInRange, SpellsAddress, parse_node, u32_if_fits, number_with_decimal_digit, number_with_decimal_digits, parse_number}
 use Rattle.std.specs.Str.{str_to_ascii_lowercase}
 use Rattle.std.specs.Char.{to_ascii_lowercase}
 use Rattle.std.proofs.lemmas.Bool.Decides.{nat_tests}
 use Rattle.std.proofs.lemmas.List.{append-nil, take_all, drop-take, drop-drop}
 use Rattle.std.proofs.lemmas.Fmt.{decimal_step, decimal_digit, decimal_by_steps}
-use Rattle.ga_word.specs.Word.{hex_digit}
-use Rattle.ga_grid.specs.Grid.{yxx_of, number_of_yxx, node_id, decimal_digit as digit_in, parse_node_name}
+use Rattle.ga_word.specs.Word.{hex_digit_at_place}
+use Rattle.ga_grid.specs.Grid.{decimal_name_of_node, node_number_of_name, node_id, decimal_digit as digit_in, parse_decimal_name}
 use Rattle.ga_grid.specs.declared.node_id.NodeId.{NodeId}
 use Rattle.ga_grid.proofs.NodeIds.{node_id-number}
-use Rattle.ga_text.specs.Digits.{hex_byte_value, decimal3_of, hex2_of, name_of_node}
+use Rattle.ga_text.specs.Digits.{hex_byte_value, three_decimal_digits, two_hex_digits_text, name_of_node}
 use Rattle.ga_ports.specs.Steps.{◌>>=◌}
 use Rattle.ga_text.proofs.Numbers.{cell_spelled, cell_read, node_spelled, node_read}
 use Rattle.std.proofs.Math.Seq.{take-append-add, take-suc}
@@ -24,7 +24,7 @@ use Rattle.ga_text.specs.Lines.{is_line_end_byte, HasNoLineFeed, line_with_line_
 -- ---- A text is cut at its first space
 
 -- another byte belongs to the first part
-past_byte : (b : ℕ) (text : List ℕ) → b ≢ 32 → split_at_space (b ∷ text) ≡ with_prepended_byte b (split_at_space text)
+past_byte : (b : ℕ) (text : List ℕ) → b ≢ 32 → split_at_space (b ∷ text) ≡ parts_with_prepended_byte b (split_at_space text)
 past_byte b text other = rw (ne_eqb b 32 other) refl
 
 pub at_space : (text : List ℕ) (i : ℕ) → i < length text → ((k : ℕ) → k < i → get_or text k 0 ≢ 32) → get_or text i 0 ≡ 32 → split_at_space text ≡ Some (take i text, drop (i + 1) text)
@@ -32,11 +32,11 @@ at_space [] i within none space = absurd (omega arith)
 at_space (b ∷ text) zero within none space = rw space refl
 at_space (b ∷ text) (suc i) within none space =
     let again : split_at_space text ≡ Some (take i text, drop (i + 1) text) = at_space text i (omega arith) (λ k below. none (suc k) (omega arith)) space in
-    past_byte b text (none 0 (omega arith)) ∙ ap (with_prepended_byte b) again ∙ rw (add-one, add-one) refl
+    past_byte b text (none 0 (omega arith)) ∙ ap (parts_with_prepended_byte b) again ∙ rw (add-one, add-one) refl
 
 pub no_space : (text : List ℕ) → ((k : ℕ) → k < length text → get_or text k 0 ≢ 32) → split_at_space text ≡ None
 no_space [] none = refl
-no_space (b ∷ text) none = past_byte b text (none 0 (omega arith)) ∙ ap (with_prepended_byte b) (no_space text (λ k below. none (suc k) (omega arith)))
+no_space (b ∷ text) none = past_byte b text (none 0 (omega arith)) ∙ ap (parts_with_prepended_byte b) (no_space text (λ k below. none (suc k) (omega arith)))
 
 -- a word has no space
 abbrev pub IsWord : List ℕ → Type 0
@@ -45,17 +45,17 @@ IsWord word = AllByRecursion (λ b. b ≢ 32) word
 -- a word and a space are cut there
 pub word_cut : (word rest : List ℕ) → IsWord word → split_at_space (word ++ 32 ∷ rest) ≡ Some (word, rest)
 word_cut [] rest is = refl
-word_cut (b ∷ word) rest is = past_byte b (word ++ 32 ∷ rest) is.0 ∙ ap (with_prepended_byte b) (word_cut word rest is.1)
+word_cut (b ∷ word) rest is = past_byte b (word ++ 32 ∷ rest) is.0 ∙ ap (parts_with_prepended_byte b) (word_cut word rest is.1)
 
 joined : (b : ℕ) (text : List ℕ) (found : Option (List ℕ × List ℕ)) (parts : List ℕ × List ℕ)
-    → ((some : List ℕ × List ℕ) → found ≡ Some some → text ≡ some.0 ++ 32 ∷ some.1) → with_prepended_byte b found ≡ Some parts → b ∷ text ≡ parts.0 ++ 32 ∷ parts.1
+    → ((some : List ℕ × List ℕ) → found ≡ Some some → text ≡ some.0 ++ 32 ∷ some.1) → parts_with_prepended_byte b found ≡ Some parts → b ∷ text ≡ parts.0 ++ 32 ∷ parts.1
 joined b text None parts is e = cc
 joined b text (Some some) parts is e =
     let same : (b ∷ some.0, some.1) ≡ parts = cc in
     ap (λ (t : List ℕ). b ∷ t) (is some refl) ∙ ap (λ (p : List ℕ × List ℕ). p.0 ++ 32 ∷ p.1) same
 
 at_test : (t : Bool) (b : ℕ) (text : List ℕ) (parts : List ℕ × List ℕ) → (t ≡ true → b ≡ 32)
-    → ((some : List ℕ × List ℕ) → split_at_space text ≡ Some some → text ≡ some.0 ++ 32 ∷ some.1) → cond t (Some ([], text)) (with_prepended_byte b (split_at_space text)) ≡ Some parts → b ∷ text ≡ parts.0 ++ 32 ∷ parts.1
+    → ((some : List ℕ × List ℕ) → split_at_space text ≡ Some some → text ≡ some.0 ++ 32 ∷ some.1) → cond t (Some ([], text)) (parts_with_prepended_byte b (split_at_space text)) ≡ Some parts → b ∷ text ≡ parts.0 ++ 32 ∷ parts.1
 at_test true b text parts space again e =
     let same : ([], text) ≡ parts = cc in
     ap (λ (c : ℕ). c ∷ text) (space refl) ∙ ap (λ (p : List ℕ × List ℕ). p.0 ++ 32 ∷ p.1) same
@@ -78,7 +78,7 @@ mapped (Some x) f y e = let same : f x ≡ y = cc in (x, refl, same)
 -- ---- nodes
 
 -- a node is found again by its row and column
-pub node_of_yxx : (n : ℕ) → n < 144 → number_of_yxx (yxx_of n) ≡ Some n
+pub node_of_yxx : (n : ℕ) → n < 144 → node_number_of_name (decimal_name_of_node n) ≡ Some n
 node_of_yxx n small =
     let row : (100 * (n / 18) + n % 18) / 100 ≡ n / 18 = omega arith in
     let column : (100 * (n / 18) + n % 18) % 100 ≡ n % 18 = omega arith in
@@ -92,22 +92,22 @@ tested : (b : Bool) (m : ℕ) (node : NodeId) → option_map node_id (cond b (So
 tested true m node e = let same : node_id m ≡ node = cc in (refl, same)
 tested false m node e = cc
 
-named : (yxx : ℕ) (node : NodeId) → option_map node_id (number_of_yxx yxx) ≡ Some node → yxx_of node.number ≡ yxx
-named yxx node e =
-    let (test, same) = tested (nat_lt (yxx / 100) 8 && nat_lt (yxx % 100) 18) (18 * (yxx / 100) + yxx % 100) node e in
-    let row : yxx / 100 < 8 = grind (arith, nat_tests) in
-    let column : yxx % 100 < 18 = grind (arith, nat_tests) in
-    let number : node.number ≡ 18 * (yxx / 100) + yxx % 100 = rw (← same) (omega arith) in
+named : (decimal_name : ℕ) (node : NodeId) → option_map node_id (node_number_of_name decimal_name) ≡ Some node → decimal_name_of_node node.number ≡ decimal_name
+named decimal_name node e =
+    let (test, same) = tested (nat_lt (decimal_name / 100) 8 && nat_lt (decimal_name % 100) 18) (18 * (decimal_name / 100) + decimal_name % 100) node e in
+    let row : decimal_name / 100 < 8 = grind (arith, nat_tests) in
+    let column : decimal_name % 100 < 18 = grind (arith, nat_tests) in
+    let number : node.number ≡ 18 * (decimal_name / 100) + decimal_name % 100 = rw (← same) (omega arith) in
     rw number (omega arith)
 
 pub node_name : (word : List ℕ) (node : NodeId) → parse_node word ≡ Some node → word ≡ name_of_node node
 unfolding parse_node
 node_name word node e =
-    let (yxx, digits, at) = first_step (parse_node_name word) _ node e in
-    (node_spelled word yxx digits).1 ∙ ap decimal3_of (sym (named yxx node at))
+    let (decimal_name, digits, at) = first_step (parse_decimal_name word) _ node e in
+    (node_spelled word decimal_name digits).1 ∙ ap three_decimal_digits (sym (named decimal_name node at))
 
 -- the node of a row and a column
-pub numbered : (row column : ℕ) → row < 8 → column < 18 → number_of_yxx (100 * row + column) ≡ Some (18 * row + column)
+pub numbered : (row column : ℕ) → row < 8 → column < 18 → node_number_of_name (100 * row + column) ≡ Some (18 * row + column)
 numbered row column r c =
     let above : (100 * row + column) / 100 ≡ row = omega arith in
     let below : (100 * row + column) % 100 ≡ column = omega arith in
@@ -117,7 +117,7 @@ pub name_node : (node : NodeId) → parse_node (name_of_node node) ≡ Some node
 unfolding parse_node
 name_node node =
     let small : node.number < 144 = node.in_range in
-    rw (node_read (yxx_of node.number) (omega arith), node_of_yxx node.number small) (ap Some (node_id-number node))
+    rw (node_read (decimal_name_of_node node.number) (omega arith), node_of_yxx node.number small) (ap Some (node_id-number node))
 
 pub name_word : (node : NodeId) → IsWord (name_of_node node)
 name_word node = (omega arith, (omega arith, (omega arith, tt)))
@@ -155,7 +155,7 @@ digit_last n digit m some small bound whole =
     decimal_step m (omega arith) (omega arith) ∙ rw (front, last) refl
 
 -- one digit more
-one_more : (n byte m : ℕ) → with_decimal_digit n byte ≡ Some m → (m < 2 ^ 32) × (decimal n ++ byte ∷ [] ≡ decimal m)
+one_more : (n byte m : ℕ) → number_with_decimal_digit n byte ≡ Some m → (m < 2 ^ 32) × (decimal n ++ byte ∷ [] ≡ decimal m)
 one_more n byte m e =
     let (test, found) = not_zero (n == 0) _ m e in
     let some : 0 < n = grind (arith, nat_tests) in
@@ -164,16 +164,16 @@ one_more n byte m e =
     let (bound, whole) = fits (10 * n + digit) m sum in
     (bound, ap (λ (c : ℕ). decimal n ++ c ∷ []) glyph ∙ sym (digit_last n digit m some small bound whole))
 
-digits_more : (n : ℕ) (text : List ℕ) (k : ℕ) → n < 2 ^ 32 → with_decimal_digits n text ≡ Some k → IsStepNumber k × (decimal n ++ text ≡ decimal k)
+digits_more : (n : ℕ) (text : List ℕ) (k : ℕ) → n < 2 ^ 32 → number_with_decimal_digits n text ≡ Some k → IsStepNumberInRange k × (decimal n ++ text ≡ decimal k)
 digits_more n [] k small e = let same : n ≡ k = cc in (rw (← same) small, append-nil (decimal n) ∙ ap decimal same)
 digits_more n (byte ∷ text) k small e =
-    let (m, first, rest) = first_step (with_decimal_digit n byte) _ k e in
+    let (m, first, rest) = first_step (number_with_decimal_digit n byte) _ k e in
     let (bound, front) = one_more n byte m first in
     let (is, whole) = digits_more m text k bound rest in
     (is, sym (append_assoc (decimal n) (byte ∷ []) text) ∙ ap (λ (t : List ℕ). t ++ text) front ∙ whole)
 
 -- a word that parses as a number is that number in decimal
-pub number_decimal : (word : List ℕ) (k : ℕ) → parse_number word ≡ Some k → IsStepNumber k × (word ≡ decimal k)
+pub number_decimal : (word : List ℕ) (k : ℕ) → parse_number word ≡ Some k → IsStepNumberInRange k × (word ≡ decimal k)
 number_decimal [] k e = cc
 number_decimal (byte ∷ text) k e =
     let (digit, first, rest) = first_step (digit_in byte) _ k e in
@@ -185,19 +185,19 @@ kept : {A : Type 0} (o : Option A) → (o >>= λ x. Some x) ≡ o
 kept None = refl
 kept (Some x) = refl
 
-digits_behind : (n : ℕ) (text : List ℕ) (m byte : ℕ) → with_decimal_digits n text ≡ Some m → with_decimal_digits n (text ++ byte ∷ []) ≡ with_decimal_digit m byte
-digits_behind n [] m byte e = let same : n ≡ m = cc in rw (← same) (kept (with_decimal_digit n byte))
+digits_behind : (n : ℕ) (text : List ℕ) (m byte : ℕ) → number_with_decimal_digits n text ≡ Some m → number_with_decimal_digits n (text ++ byte ∷ []) ≡ number_with_decimal_digit m byte
+digits_behind n [] m byte e = let same : n ≡ m = cc in rw (← same) (kept (number_with_decimal_digit n byte))
 digits_behind n (b ∷ text) m byte e =
-    let (next, first, rest) = first_step (with_decimal_digit n b) _ m e in
+    let (next, first, rest) = first_step (number_with_decimal_digit n b) _ m e in
     rw first (digits_behind next text m byte rest)
 
-digit_behind : (word : List ℕ) (m byte : ℕ) → parse_number word ≡ Some m → parse_number (word ++ byte ∷ []) ≡ with_decimal_digit m byte
+digit_behind : (word : List ℕ) (m byte : ℕ) → parse_number word ≡ Some m → parse_number (word ++ byte ∷ []) ≡ number_with_decimal_digit m byte
 digit_behind [] m byte e = cc
 digit_behind (b ∷ text) m byte e =
     let (digit, first, rest) = first_step (digit_in b) _ m e in
     rw first (digits_behind digit text m byte rest)
 
-last_digit : (n : ℕ) → 10 ≤ n → n < 2 ^ 32 → with_decimal_digit (n / 10) (48 + n % 10) ≡ Some n
+last_digit : (n : ℕ) → 10 ≤ n → n < 2 ^ 32 → number_with_decimal_digit (n / 10) (48 + n % 10) ≡ Some n
 last_digit n big small =
     let some : n / 10 ≢ 0 = omega arith in
     let whole : 10 * (n / 10) + n % 10 ≡ n = omega arith in
@@ -207,7 +207,7 @@ last_digit n big small =
 Reads : ℕ → List ℕ → Type 0
 Reads n word = n < 2 ^ 32 → parse_number word ≡ Some n
 
-pub decimal_number : (k : ℕ) → IsStepNumber k → parse_number (decimal k) ≡ Some k
+pub decimal_number : (k : ℕ) → IsStepNumberInRange k → parse_number (decimal k) ≡ Some k
 unfolding Reads
 decimal_number k small = decimal_by_steps Reads one more k (omega arith) small where
   one : (n : ℕ) → n < 10 → Reads n ((48 + n) ∷ [])
@@ -223,7 +223,7 @@ word_more (a ∷ word) b is other = (is.0, word_more word b is.1 other)
 Whole : ℕ → List ℕ → Type 0
 Whole n word = IsWord word
 
-pub decimal_word : (k : ℕ) → IsStepNumber k → IsWord (decimal k)
+pub decimal_word : (k : ℕ) → IsStepNumberInRange k → IsWord (decimal k)
 unfolding Whole
 decimal_word k small = decimal_by_steps Whole (λ n digit. (omega arith, tt)) (λ n ds big front. word_more ds (48 + n % 10) front (omega arith)) k (omega arith)
 
@@ -237,15 +237,15 @@ byte_address (a ∷ b ∷ []) address e = let is = cell_spelled a b address e in
 byte_address (a ∷ b ∷ c ∷ word) address e = cc
 
 pub address_byte : (word : List ℕ) (address : ℕ) → SpellsAddress address word → hex_byte_value word ≡ Some address
-address_byte [] address is = let e : [] ≡ hex2_of address = is.digits in cc
-address_byte (a ∷ []) address is = let e : (to_ascii_lowercase a ∷ []) ≡ hex2_of address = is.digits in cc
+address_byte [] address is = let e : [] ≡ two_hex_digits_text address = is.digits in cc
+address_byte (a ∷ []) address is = let e : (to_ascii_lowercase a ∷ []) ≡ two_hex_digits_text address = is.digits in cc
 address_byte (a ∷ b ∷ []) address is =
-    let e : (to_ascii_lowercase a ∷ to_ascii_lowercase b ∷ []) ≡ hex2_of address = is.digits in
-    let high : to_ascii_lowercase a ≡ hex_digit address 1 = cc in
-    let low : to_ascii_lowercase b ≡ hex_digit address 0 = cc in
+    let e : (to_ascii_lowercase a ∷ to_ascii_lowercase b ∷ []) ≡ two_hex_digits_text address = is.digits in
+    let high : to_ascii_lowercase a ≡ hex_digit_at_place address 1 = cc in
+    let low : to_ascii_lowercase b ≡ hex_digit_at_place address 0 = cc in
     cell_read a b address is.in_range high low
 address_byte (a ∷ b ∷ c ∷ word) address is =
-    let e : (to_ascii_lowercase a ∷ to_ascii_lowercase b ∷ to_ascii_lowercase c ∷ str_to_ascii_lowercase word) ≡ hex2_of address = is.digits in cc
+    let e : (to_ascii_lowercase a ∷ to_ascii_lowercase b ∷ to_ascii_lowercase c ∷ str_to_ascii_lowercase word) ≡ two_hex_digits_text address = is.digits in cc
 
 -- ---- parts of the input
 

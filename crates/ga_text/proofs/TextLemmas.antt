@@ -3,13 +3,13 @@ use Rattle.std.proofs.Common.{◌≡◌, ℕ, ◌+◌, ◌/◌, ◌%◌, ◌<◌
 use Rattle.std.specs.List.{AllByRecursion}
 use Rattle.std.proofs.lemmas.List.{append-nil, take_all, length-drop}
 use Rattle.std.proofs.lemmas.List.Elements.{recursion_from_All, All-append, All-nil}
-use Rattle.ga_text.specs.Lines.{lines_of, lines_with_first_byte, is_line_end_byte, HasNoLineFeed, line_with_line_feed, text_of_lines, with_byte_in_first_line, terminated_lines}
-use Rattle.ga_grid.specs.Grid.{yxx_of}
+use Rattle.ga_text.specs.Lines.{lines_of_text, lines_with_added_front_byte, is_line_end_byte, HasNoLineFeed, line_with_line_feed, text_of_lines, terminated_lines_with_front_byte, terminated_lines}
+use Rattle.ga_grid.specs.Grid.{decimal_name_of_node}
 use Rattle.ga_grid.specs.declared.node_id.NodeId.{NodeId}
 use Rattle.ga_text.specs.Digits.{name_of_node}
 use Rattle.ga_text.specs.inner.{two_digits}
 use Rattle.std.proofs.lemmas.Grind.{flat_map-append}
-use Rattle.ga_text.specs.Image.{IsBodyLine, end_line, HasNoEndLine}
+use Rattle.ga_text.specs.Image.{IsImageBodyLine, image_end_line, HasNoEndLine}
 
 -- no line feed, byte by byte
 NoFeed : List ℕ → Type 0
@@ -22,30 +22,30 @@ by_byte bytes h = recursion_from_All (λ b. is_line_end_byte b ≡ false) bytes 
 otherwise : {A : Type 0} (b : Bool) (x y : A) → b ≡ false → cond b x y ≡ y
 otherwise b x y e = rw e refl
 
-lines_at : (line more : List ℕ) → NoFeed line → lines_of (line ++ 10 ∷ more) ≡ line ∷ lines_of more
+lines_at : (line more : List ℕ) → NoFeed line → lines_of_text (line ++ 10 ∷ more) ≡ line ∷ lines_of_text more
 unfolding NoFeed
 lines_at [] more h = refl
-lines_at (b ∷ line) more h = otherwise (is_line_end_byte b) _ _ h.0 ∙ ap (lines_with_first_byte b) (lines_at line more h.1)
+lines_at (b ∷ line) more h = otherwise (is_line_end_byte b) _ _ h.0 ∙ ap (lines_with_added_front_byte b) (lines_at line more h.1)
 
 ended_at : (line more : List ℕ) → NoFeed line → terminated_lines (line ++ 10 ∷ more) ≡ line ∷ terminated_lines more
 unfolding NoFeed
 ended_at [] more h = refl
-ended_at (b ∷ line) more h = otherwise (is_line_end_byte b) _ _ h.0 ∙ ap (with_byte_in_first_line b) (ended_at line more h.1)
+ended_at (b ∷ line) more h = otherwise (is_line_end_byte b) _ _ h.0 ∙ ap (terminated_lines_with_front_byte b) (ended_at line more h.1)
 
 ended_by_byte : (bytes : List ℕ) → NoFeed bytes → terminated_lines bytes ≡ []
 unfolding NoFeed
 ended_by_byte [] h = refl
-ended_by_byte (b ∷ bytes) h = otherwise (is_line_end_byte b) _ _ h.0 ∙ ap (with_byte_in_first_line b) (ended_by_byte bytes h.1)
+ended_by_byte (b ∷ bytes) h = otherwise (is_line_end_byte b) _ _ h.0 ∙ ap (terminated_lines_with_front_byte b) (ended_by_byte bytes h.1)
 
-last_by_byte : (b : ℕ) (bytes : List ℕ) → NoFeed (b ∷ bytes) → lines_of (b ∷ bytes) ≡ (b ∷ bytes) ∷ []
+last_by_byte : (b : ℕ) (bytes : List ℕ) → NoFeed (b ∷ bytes) → lines_of_text (b ∷ bytes) ≡ (b ∷ bytes) ∷ []
 unfolding NoFeed
 last_by_byte b [] h = otherwise (is_line_end_byte b) _ _ h.0
-last_by_byte b (x ∷ bytes) h = otherwise (is_line_end_byte b) _ _ h.0 ∙ ap (lines_with_first_byte b) (last_by_byte x bytes h.1)
+last_by_byte b (x ∷ bytes) h = otherwise (is_line_end_byte b) _ _ h.0 ∙ ap (lines_with_added_front_byte b) (last_by_byte x bytes h.1)
 
-pub lines_front : (lines : List (List ℕ)) (tail : List ℕ) → AllByRecursion HasNoLineFeed lines → lines_of (text_of_lines lines ++ tail) ≡ lines ++ lines_of tail
+pub lines_front : (lines : List (List ℕ)) (tail : List ℕ) → AllByRecursion HasNoLineFeed lines → lines_of_text (text_of_lines lines ++ tail) ≡ lines ++ lines_of_text tail
 lines_front [] tail h = refl
 lines_front (line ∷ lines) tail h =
-    ap lines_of (append_assoc (line_with_line_feed line) (text_of_lines lines) tail ∙ append_assoc line (10 ∷ []) (text_of_lines lines ++ tail))
+    ap lines_of_text (append_assoc (line_with_line_feed line) (text_of_lines lines) tail ∙ append_assoc line (10 ∷ []) (text_of_lines lines ++ tail))
     ∙ lines_at line (text_of_lines lines ++ tail) (by_byte line h.0) ∙ ap (λ (ls : List (List ℕ)). line ∷ ls) (lines_front lines tail h.1)
 
 pub ended_front : (lines : List (List ℕ)) (tail : List ℕ) → AllByRecursion HasNoLineFeed lines → terminated_lines (text_of_lines lines ++ tail) ≡ lines ++ terminated_lines tail
@@ -57,7 +57,7 @@ ended_front (line ∷ lines) tail h =
 pub ended_none : (tail : List ℕ) → HasNoLineFeed tail → terminated_lines tail ≡ []
 ended_none tail h = ended_by_byte tail (by_byte tail h)
 
-pub lines_last : (tail : List ℕ) → HasNoLineFeed tail → 0 < length tail → lines_of tail ≡ tail ∷ []
+pub lines_last : (tail : List ℕ) → HasNoLineFeed tail → 0 < length tail → lines_of_text tail ≡ tail ∷ []
 lines_last [] h some = absurd (omega arith)
 lines_last (b ∷ bytes) h some = last_by_byte b bytes (by_byte (b ∷ bytes) h)
 
@@ -67,14 +67,14 @@ ended_whole lines tail h none = ended_front lines tail h ∙ ap (λ (ls : List (
 -- The lines are those that a line feed ends, and at most one more.
 pub record MoreLines (text : List ℕ) : Type 0 where
   pub more : List (List ℕ)
-  pub same : lines_of text ≡ terminated_lines text ++ more
+  pub same : lines_of_text text ≡ terminated_lines text ++ more
 
-with_byte_more : (b : ℕ) (all first more : List (List ℕ)) → all ≡ first ++ more → (rest : List (List ℕ)) × (lines_with_first_byte b all ≡ with_byte_in_first_line b first ++ rest)
-with_byte_more b all [] more e = (lines_with_first_byte b all, refl)
-with_byte_more b all (l ∷ ls) more e = (more, ap (lines_with_first_byte b) e)
+with_byte_more : (b : ℕ) (all first more : List (List ℕ)) → all ≡ first ++ more → (rest : List (List ℕ)) × (lines_with_added_front_byte b all ≡ terminated_lines_with_front_byte b first ++ rest)
+with_byte_more b all [] more e = (lines_with_added_front_byte b all, refl)
+with_byte_more b all (l ∷ ls) more e = (more, ap (lines_with_added_front_byte b) e)
 
 more_by_byte : (b : ℕ) (feed : Bool) (all first : List (List ℕ)) (more : List (List ℕ)) → all ≡ first ++ more
-    → (rest : List (List ℕ)) × (cond feed ([] ∷ all) (lines_with_first_byte b all) ≡ cond feed ([] ∷ first) (with_byte_in_first_line b first) ++ rest)
+    → (rest : List (List ℕ)) × (cond feed ([] ∷ all) (lines_with_added_front_byte b all) ≡ cond feed ([] ∷ first) (terminated_lines_with_front_byte b first) ++ rest)
 more_by_byte b true all first more e = (more, ap (λ (ls : List (List ℕ)). [] ∷ ls) e)
 more_by_byte b false all first more e = with_byte_more b all first more e
 
@@ -82,7 +82,7 @@ pub more_lines : (text : List ℕ) → MoreLines text
 more_lines [] = record { more = []; same = refl }
 more_lines (b ∷ text) =
     let later = more_lines text in
-    let found = more_by_byte b (is_line_end_byte b) (lines_of text) (terminated_lines text) later.more later.same in
+    let found = more_by_byte b (is_line_end_byte b) (lines_of_text text) (terminated_lines text) later.more later.same in
     record { more = found.0; same = found.1 }
 
 -- ---- a node's name
@@ -91,9 +91,9 @@ more_lines (b ∷ text) =
 pub name_spelled : (node : NodeId) → (48 + node.number / 18) ∷ two_digits (node.number % 18) ≡ name_of_node node
 name_spelled node =
     let small : node.number < 144 = node.in_range in
-    let row : yxx_of node.number / 100 ≡ node.number / 18 = omega arith in
-    let tens : yxx_of node.number / 10 % 10 ≡ node.number % 18 / 10 = omega arith in
-    let ones : yxx_of node.number % 10 ≡ node.number % 18 % 10 = omega arith in
+    let row : decimal_name_of_node node.number / 100 ≡ node.number / 18 = omega arith in
+    let tens : decimal_name_of_node node.number / 10 % 10 ≡ node.number % 18 / 10 = omega arith in
+    let ones : decimal_name_of_node node.number % 10 ≡ node.number % 18 % 10 = omega arith in
     rw (row, tens, ones) refl
 
 -- ---- an image as it is read, part by part
@@ -102,7 +102,7 @@ name_spelled node =
 pub record Body (text : List ℕ) (start : ℕ) : Type 0 where
   pub lines : List (List ℕ)
   pub part : List ℕ
-  pub before : AllByRecursion IsBodyLine lines
+  pub before : AllByRecursion IsImageBodyLine lines
   pub no_feed : HasNoLineFeed part
   pub splits : text ≡ text_of_lines lines ++ part
   pub starts : start ≡ length (text_of_lines lines)
@@ -143,12 +143,12 @@ line_range text more start piece b e =
     ∙ ap (drop (length (text_of_lines b.lines))) (line_splits text more start piece b e)
     ∙ drop_seam (text_of_lines b.lines) (line_with_line_feed (b.part ++ piece))
 
-push_body : (lines : List (List ℕ)) (line : List ℕ) → AllByRecursion IsBodyLine lines → IsBodyLine line → AllByRecursion IsBodyLine (lines ++ line ∷ [])
+push_body : (lines : List (List ℕ)) (line : List ℕ) → AllByRecursion IsImageBodyLine lines → IsImageBodyLine line → AllByRecursion IsImageBodyLine (lines ++ line ∷ [])
 push_body [] line h p = (p, tt)
 push_body (l ∷ ls) line h p = (h.0, push_body ls line h.1 p)
 
 pub body_line : (text more : List ℕ) (start : ℕ) (piece : List ℕ) (b : Body text start) → HasNoLineFeed piece → more ≡ text ++ line_with_line_feed piece
-    → (line_with_line_feed (b.part ++ piece) ≡ line_with_line_feed end_line → ⊥) → Body more (length more)
+    → (line_with_line_feed (b.part ++ piece) ≡ line_with_line_feed image_end_line → ⊥) → Body more (length more)
 body_line text more start piece b none e other =
     let line : List ℕ = b.part ++ piece in
     let whole : more ≡ text_of_lines (b.lines ++ line ∷ []) =

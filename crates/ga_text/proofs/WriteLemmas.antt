@@ -4,14 +4,14 @@ use Rattle.std.proofs.lemmas.Option.{none-some}
 use Rattle.std.specs.Io.KnownBytes.{Appends, Keeps}
 use Rattle.std.specs.Result.{IsErr}
 use Rattle.std.proofs.lemmas.List.{append-nil, take_all, take_more, flat_map_more}
-use Rattle.ga_text.specs.Output.{IsTextWritten, IsTextTruncated, IsTextWrittenOrTruncated}
+use Rattle.ga_text.specs.Output.{IsTextWrittenOrPending, IsTextTruncated, IsTextWrittenOrTruncated}
 use Rattle.ga_text.specs.declared.output.WriteError.{WriteError}
 use Rattle.std.specs.Prelude.{flat_map, ◌==◌}
 use Rattle.std.proofs.lemmas.Grind.{flat_map-append}
 use Rattle.std.proofs.lemmas.Bool.Decides.{nat_tests}
 use Rattle.std.proofs.lemmas.List.Elements.{All-append, All-nil}
 use Rattle.ga_text.specs.Lines.{HasNoLineFeed, is_line_end_byte}
-use Rattle.ga_text.specs.Input.{IsBoundedLine}
+use Rattle.ga_text.specs.Input.{HoldsLinePartUpToLimit}
 
 -- ---- what known bytes become
 
@@ -25,15 +25,15 @@ keeps_known None new xs e h = absurd (none-some xs e)
 keeps_known (Some ys) None xs e h = absurd h
 keeps_known (Some ys) (Some zs) xs e h = ap Some h ∙ e
 
-pub said_cut : (contents : Option (List ℕ)) (before said pending : List ℕ) → IsTextWritten contents before said pending → IsTextTruncated contents before said
+pub said_cut : (contents : Option (List ℕ)) (before said pending : List ℕ) → IsTextWrittenOrPending contents before said pending → IsTextTruncated contents before said
 said_cut contents before said pending h = record { sent = h.sent; held = h.held; front = (pending, h.splits) }
 
-pub said_kept : (old new : Option (List ℕ)) (before said pending : List ℕ) → Keeps old new → IsTextWritten old before said pending → IsTextWritten new before said pending
+pub said_kept : (old new : Option (List ℕ)) (before said pending : List ℕ) → Keeps old new → IsTextWrittenOrPending old before said pending → IsTextWrittenOrPending new before said pending
 said_kept old new before said pending k h = record { sent = h.sent; held = keeps_known old new (before ++ h.sent) h.held k; splits = h.splits }
 
 -- a front of what was pending was written
 pub said_written : (old new : Option (List ℕ)) (before said bytes pending : List ℕ) → Appends old new bytes
-    → IsTextWritten old before said (bytes ++ pending) → IsTextWritten new before said pending
+    → IsTextWrittenOrPending old before said (bytes ++ pending) → IsTextWrittenOrPending new before said pending
 said_written old new before said bytes pending a h = record {
   sent = h.sent ++ bytes;
   held = appends_known old new (before ++ h.sent) bytes h.held a ∙ ap Some (append_assoc before h.sent bytes);
@@ -47,15 +47,15 @@ truncated_more contents before said more h = record {
   front = (h.front.0 ++ more, ap (λ (t : List ℕ). t ++ more) h.front.1 ∙ append_assoc h.sent h.front.0 more);
 }
 
-pub said_same : (contents : Option (List ℕ)) (before said pending other : List ℕ) → pending ≡ other → IsTextWritten contents before said pending → IsTextWritten contents before said other
+pub said_same : (contents : Option (List ℕ)) (before said pending other : List ℕ) → pending ≡ other → IsTextWrittenOrPending contents before said pending → IsTextWrittenOrPending contents before said other
 said_same contents before said pending other e h = record {
   sent = h.sent;
   held = h.held;
   splits = h.splits ∙ ap (λ (t : List ℕ). h.sent ++ t) e;
 }
 
-pub said_assoc : (contents : Option (List ℕ)) (before said text more pending : List ℕ) → IsTextWritten contents before ((said ++ text) ++ more) pending
-    → IsTextWritten contents before (said ++ (text ++ more)) pending
+pub said_assoc : (contents : Option (List ℕ)) (before said text more pending : List ℕ) → IsTextWrittenOrPending contents before ((said ++ text) ++ more) pending
+    → IsTextWrittenOrPending contents before (said ++ (text ++ more)) pending
 said_assoc contents before said text more pending h = record { sent = h.sent; held = h.held; splits = sym (append_assoc said text more) ∙ h.splits }
 
 pub cut_assoc : (contents : Option (List ℕ)) (before said text more : List ℕ) → IsTextTruncated contents before ((said ++ text) ++ more)
@@ -63,7 +63,7 @@ pub cut_assoc : (contents : Option (List ℕ)) (before said text more : List ℕ
 cut_assoc contents before said text more h = record { sent = h.sent; held = h.held; front = (h.front.0, sym (append_assoc said text more) ∙ h.front.1) }
 
 -- nothing more was written
-pub written_pending : (contents : Option (List ℕ)) (before said pending : List ℕ) → IsTextWritten contents before said pending → IsTextWritten contents before (said ++ []) pending
+pub written_pending : (contents : Option (List ℕ)) (before said pending : List ℕ) → IsTextWrittenOrPending contents before said pending → IsTextWrittenOrPending contents before (said ++ []) pending
 written_pending contents before said pending h = record { sent = h.sent; held = h.held; splits = append-nil said ∙ h.splits }
 
 -- what holds at each error holds at a result that is one
@@ -77,8 +77,8 @@ truncated_here (Ok done) contents before said pending is h = absurd (search rule
 truncated_here (Err why) contents before said pending is h = h
 
 -- where the text is empty
-pub said_nothing : (contents : Option (List ℕ)) (before said text pending : List ℕ) → text ≡ [] → IsTextWritten contents before (said ++ text) pending
-    → IsTextWritten contents before said pending
+pub said_nothing : (contents : Option (List ℕ)) (before said text pending : List ℕ) → text ≡ [] → IsTextWrittenOrPending contents before (said ++ text) pending
+    → IsTextWrittenOrPending contents before said pending
 said_nothing contents before said text pending e h = record {
   sent = h.sent;
   held = h.held;
@@ -86,10 +86,10 @@ said_nothing contents before said text pending e h = record {
 }
 
 -- the same for an equal text
-pub written_as : (contents : Option (List ℕ)) (before said text other pending : List ℕ) → text ≡ other → IsTextWritten contents before (said ++ text) pending
-    → IsTextWritten contents before (said ++ other) pending
+pub written_as : (contents : Option (List ℕ)) (before said text other pending : List ℕ) → text ≡ other → IsTextWrittenOrPending contents before (said ++ text) pending
+    → IsTextWrittenOrPending contents before (said ++ other) pending
 written_as contents before said text other pending e h =
-    let P : List ℕ → Type 0 = λ t. IsTextWritten contents before (said ++ t) pending in subst P e h
+    let P : List ℕ → Type 0 = λ t. IsTextWrittenOrPending contents before (said ++ t) pending in subst P e h
 
 -- a prefix of a text was written
 pub truncated_within : (contents : Option (List ℕ)) (before said text more whole : List ℕ) → text ++ more ≡ whole → IsTextTruncated contents before (said ++ text)
@@ -132,16 +132,16 @@ take-take-append zero xs ys = refl
 take-take-append (suc n) [] ys = refl
 take-take-append (suc n) (x ∷ xs) ys = ap (λ (t : List ℕ). x ∷ t) (take-take-append n xs ys)
 
-pub line_none : (whole line : List ℕ) → line ≡ [] → IsBoundedLine whole line [] whole
+pub line_none : (whole line : List ℕ) → line ≡ [] → HoldsLinePartUpToLimit whole line [] whole
 line_none whole line e = record { splits = refl; no_feed = All-nil (λ b. is_line_end_byte b ≡ false); kept = e }
 
 -- the same bytes, split the same
-pub line_same : (whole line part more other : List ℕ) → more ≡ other → IsBoundedLine whole line part more → IsBoundedLine whole line part other
-line_same whole line part more other e l = let P : List ℕ → Type 0 = λ xs. IsBoundedLine whole line part xs in subst P e l
+pub line_same : (whole line part more other : List ℕ) → more ≡ other → HoldsLinePartUpToLimit whole line part more → HoldsLinePartUpToLimit whole line part other
+line_same whole line part more other e l = let P : List ℕ → Type 0 = λ xs. HoldsLinePartUpToLimit whole line part xs in subst P e l
 
 -- a piece more
-pub line_piece : (whole line longer part piece old new rest : List ℕ) → IsBoundedLine whole line part (old ++ rest)
-    → HasNoLineFeed piece → old ≡ piece ++ new → longer ≡ take 201 (line ++ piece) → IsBoundedLine whole longer (part ++ piece) (new ++ rest)
+pub line_piece : (whole line longer part piece old new rest : List ℕ) → HoldsLinePartUpToLimit whole line part (old ++ rest)
+    → HasNoLineFeed piece → old ≡ piece ++ new → longer ≡ take 201 (line ++ piece) → HoldsLinePartUpToLimit whole longer (part ++ piece) (new ++ rest)
 line_piece whole line longer part piece old new rest l none e kept = record {
   splits = l.splits ∙ ap (λ (t : List ℕ). part ++ t) (ap (λ (t : List ℕ). t ++ rest) e ∙ append_assoc piece new rest) ∙ sym (append_assoc part piece (new ++ rest));
   no_feed = All-append (λ b. is_line_end_byte b ≡ false) part piece l.no_feed none;
@@ -149,8 +149,8 @@ line_piece whole line longer part piece old new rest l none e kept = record {
 }
 
 -- all that was read
-pub line_all : (whole line longer part piece old rest : List ℕ) → IsBoundedLine whole line part (old ++ rest)
-    → HasNoLineFeed piece → old ≡ piece → longer ≡ take 201 (line ++ piece) → IsBoundedLine whole longer (part ++ piece) rest
+pub line_all : (whole line longer part piece old rest : List ℕ) → HoldsLinePartUpToLimit whole line part (old ++ rest)
+    → HasNoLineFeed piece → old ≡ piece → longer ≡ take 201 (line ++ piece) → HoldsLinePartUpToLimit whole longer (part ++ piece) rest
 line_all whole line longer part piece old rest l none e kept =
     line_piece whole line longer part piece old [] rest l none (e ∙ sym (append-nil piece)) kept
 

@@ -2,24 +2,24 @@
 use Rattle.std.specs.Prelude.{ℕ, ◌+◌, ◌*◌, ◌/◌, ◌%◌, List, [], ◌∷◌, Option, Some, None, flat_map, ◌++◌, codes, decimal}
 use Rattle.ga_text.specs.Lines.{Text}
 use Rattle.hex.specs.Hex.{hex_digit_value}
-use Rattle.ga_word.specs.Word.{hex_digit, hex6_of}
+use Rattle.ga_word.specs.Word.{hex_digit_at_place, hex_digits_of_word}
 use Rattle.ga_ports.specs.Steps.{◌>>=◌}
-use Rattle.ga_grid.specs.Grid.{yxx_of}
+use Rattle.ga_grid.specs.Grid.{decimal_name_of_node}
 use Rattle.ga_grid.specs.declared.node_id.NodeId.{NodeId}
 
 -- ---- written
 
 -- three decimal digits
-abbrev pub decimal3_of : ℕ → Text
-decimal3_of n = (48 + n / 100) ∷ (48 + n / 10 % 10) ∷ (48 + n % 10) ∷ []
+abbrev pub three_decimal_digits : ℕ → Text
+three_decimal_digits n = (48 + n / 100) ∷ (48 + n / 10 % 10) ∷ (48 + n % 10) ∷ []
 
 -- two hexadecimal digits
-abbrev pub hex2_of : ℕ → Text
-hex2_of n = hex_digit n 1 ∷ hex_digit n 0 ∷ []
+abbrev pub two_hex_digits_text : ℕ → Text
+two_hex_digits_text n = hex_digit_at_place n 1 ∷ hex_digit_at_place n 0 ∷ []
 
 -- words of six digits, each after one space
-abbrev pub words_text : List ℕ → Text
-words_text words = flat_map (λ word. 32 ∷ hex6_of word) words
+abbrev pub spaced_words_text : List ℕ → Text
+spaced_words_text words = flat_map (λ word. 32 ∷ hex_digits_of_word word) words
 
 -- ---- read
 
@@ -35,7 +35,7 @@ hex_byte_value _ = None
 
 -- a node's name: three decimal digits, of its row and its column
 abbrev pub name_of_node : NodeId → Text
-name_of_node node = decimal3_of (yxx_of node.number)
+name_of_node node = three_decimal_digits (decimal_name_of_node node.number)
 
 -- a step of a node
 abbrev pub step_text : NodeId → ℕ → Text

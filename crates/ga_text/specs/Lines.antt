@@ -14,14 +14,14 @@ abbrev pub Line : Type 0
 Line = Bytes
 
 -- the lines, with one byte more at the front of the first
-abbrev pub lines_with_first_byte : ℕ → List Line → List Line
-lines_with_first_byte byte [] = (byte ∷ []) ∷ []
-lines_with_first_byte byte (line ∷ lines) = (byte ∷ line) ∷ lines
+abbrev pub lines_with_added_front_byte : ℕ → List Line → List Line
+lines_with_added_front_byte byte [] = (byte ∷ []) ∷ []
+lines_with_added_front_byte byte (line ∷ lines) = (byte ∷ line) ∷ lines
 
 -- Each line is ended by a line feed, which the last may lack. An empty text has no line.
-abbrev pub lines_of : Text → List Line
-lines_of [] = []
-lines_of (byte ∷ text) = if byte == 10 then [] ∷ lines_of text else lines_with_first_byte byte (lines_of text)
+abbrev pub lines_of_text : Text → List Line
+lines_of_text [] = []
+lines_of_text (byte ∷ text) = if byte == 10 then [] ∷ lines_of_text text else lines_with_added_front_byte byte (lines_of_text text)
 
 -- the most bytes of a line, without its line feed
 abbrev pub max_input_line : ℕ
@@ -44,11 +44,11 @@ abbrev pub text_of_lines : List Line → Text
 text_of_lines lines = flat_map line_with_line_feed lines
 
 -- a byte in front of the first line
-abbrev pub with_byte_in_first_line : ℕ → List Line → List Line
-with_byte_in_first_line b [] = []
-with_byte_in_first_line b (line ∷ lines) = (b ∷ line) ∷ lines
+abbrev pub terminated_lines_with_front_byte : ℕ → List Line → List Line
+terminated_lines_with_front_byte b [] = []
+terminated_lines_with_front_byte b (line ∷ lines) = (b ∷ line) ∷ lines
 
 -- The lines of a text that are ended by a line feed. The bytes after the last line feed are none of them.
 abbrev pub terminated_lines : Bytes → List Line
 terminated_lines [] = []
-terminated_lines (b ∷ text) = if is_line_end_byte b then [] ∷ terminated_lines text else with_byte_in_first_line b (terminated_lines text)
+terminated_lines (b ∷ text) = if is_line_end_byte b then [] ∷ terminated_lines text else terminated_lines_with_front_byte b (terminated_lines text)

@@ -3,8 +3,8 @@ use Rattle.std.specs.Prelude.{◌≡◌, ◌<◌, ◌⊎◌, [], ◌++◌, lengt
 use Rattle.ga_text.specs.Lines.{Bytes, Text}
 use Rattle.ga_text.specs.Input.{input_limit, input_block_size}
 use Rattle.ga_text.specs.Image.{EndsWithEndLine, HasNoEndLine}
-use Rattle.ga_text.specs.declared.whole.WholeRead.{WholeRead}
-use Rattle.ga_text.specs.declared.whole.WholeRead.TheVariants.{Whole, TooLong, ReadFailed, NoMemory}
+use Rattle.ga_text.specs.declared.whole.WholeInputResult.{WholeInputResult}
+use Rattle.ga_text.specs.declared.whole.WholeInputResult.TheVariants.{Whole, TooLong, ReadFailed, NoMemory}
 use Rattle.ga_text.specs.declared.output.WriteError.{WriteError}
 use Rattle.ga_text.specs.declared.output.Writer.{Writer}
 
@@ -24,22 +24,22 @@ abbrev pub IsWholeImageText : Bytes → Bytes → Text → Type 0
 IsWholeImageText read rest text = (ahead : Bytes) × (read ≡ text ++ ahead) × IsImageReadWhole text ahead rest
 
 -- What a call that reads a whole input may do: read was read of it, and rest is left.
-abbrev pub ReadsWholeInput : Bytes → Bytes → WholeRead → Type 0
+abbrev pub ReadsWholeInput : Bytes → Bytes → WholeInputResult → Type 0
 ReadsWholeInput read rest (Whole text) = IsWholeImageText read rest text.items
 ReadsWholeInput read rest (TooLong text) = (ahead : Bytes) × (read ≡ text.items ++ ahead) × IsInputTooLong text.items ahead
 ReadsWholeInput read rest ReadFailed = HasNoEndLine read
 ReadsWholeInput read rest NoMemory = Unit {0}
 
 -- the first output after an accepted image
-abbrev pub ready : Text
-ready = codes "ready\n"
+abbrev pub writer_with_ready_line : Text
+writer_with_ready_line = codes "ready\n"
 
 -- front is a front of text
 abbrev pub TextHasPrefix : Text → Text → Type 0
 TextHasPrefix text front = (more : Text) × (text ≡ front ++ more)
 
 -- Whether the stream holds a prefix of the output after what it held before, and the rest of the output is pending.
-pub record IsTextWritten (contents : Option Bytes) (before said pending : Text) : Type 0 where
+pub record IsTextWrittenOrPending (contents : Option Bytes) (before said pending : Text) : Type 0 where
   pub sent : Bytes
   pub held : contents ≡ Some (before ++ sent)
   pub splits : said ≡ sent ++ pending
@@ -52,7 +52,7 @@ pub record IsTextTruncated (contents : Option Bytes) (before said : Text) : Type
 
 -- by whether the writes succeeded: a text is written, of which the rest is pending, or it is cut short
 abbrev pub IsTextWrittenOrTruncated : {T : Type 0} → Result T WriteError → Option Bytes → Bytes → Text → Text → Type 0
-IsTextWrittenOrTruncated (Ok done) contents before said pending = IsTextWritten contents before said pending
+IsTextWrittenOrTruncated (Ok done) contents before said pending = IsTextWrittenOrPending contents before said pending
 IsTextWrittenOrTruncated (Err failed) contents before said pending = IsTextTruncated contents before said
 
 -- A writer writes to the stream that it wrote to before.
@@ -64,7 +64,7 @@ abbrev pub WritesNothing : {T W : Type 0} → Result T WriteError → (W → Opt
 WritesNothing result contents old new =
     IsSameStream old new
     × ((before said : Text)
-    → IsTextWritten (contents old.stream.now) before said old.pending.items
+    → IsTextWrittenOrPending (contents old.stream.now) before said old.pending.items
     → IsTextWrittenOrTruncated result (contents new.stream.now) before said new.pending.items)
 
 -- Whether exactly this text is written, or cut short by a failed write.
@@ -72,7 +72,7 @@ abbrev pub WritesExactly : {T W : Type 0} → Result T WriteError → Text → (
 WritesExactly result text contents old new =
     IsSameStream old new
     × ((before said : Text)
-    → IsTextWritten (contents old.stream.now) before said old.pending.items
+    → IsTextWrittenOrPending (contents old.stream.now) before said old.pending.items
     → IsTextWrittenOrTruncated result (contents new.stream.now) before (said ++ text) new.pending.items)
 
 -- Whether a text of this kind is written, or cut short by a failed write.
@@ -80,7 +80,7 @@ abbrev pub WritesSomeText : {T W : Type 0} → Result T WriteError → (Text →
 WritesSomeText result IsText contents old new =
     IsSameStream old new
     × ((before said : Text)
-    → IsTextWritten (contents old.stream.now) before said old.pending.items
+    → IsTextWrittenOrPending (contents old.stream.now) before said old.pending.items
     → (text : Text)
     × IsText text
     × IsTextWrittenOrTruncated result (contents new.stream.now) before (said ++ text) new.pending.items)

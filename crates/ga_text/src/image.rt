@@ -2,31 +2,31 @@
 ghost use Rattle.std.specs.Prelude.{◌≡◌, ◌<◌, ◌++◌, [], length, Some, Ok, IfOk, OnErr, IsTrue, ◌↔◌};
 ghost use Rattle.ga_text.specs.Lines.{Bytes, line_with_line_feed};
 ghost use Rattle.ga_text.specs.Input.{IsWithinInputLimit, input_block_size};
-ghost use Rattle.ga_text.specs.Image.{ReadsImage, end_line};
+ghost use Rattle.ga_text.specs.Image.{ReadsImage, image_end_line};
 
-use super::input::{Input, ReadStatus};
+use super::input::{InputBuffer, ReadStatus};
 use std::alloc::AllocError;
 use std::io::Read;
 
 /// Where the reading of an image stopped.
 #[derive(Clone, Copy, PartialEq, Eq)]
-pub enum ImageEnd {
+pub enum ImageReadEnd {
     /// After the image's line `end`.
     EndLine,
     /// The input ended.
-    Ended,
+    EndOfInput,
     /// The input exceeds its limit.
-    Past,
+    PastLimit,
     /// A read failed.
     Failed,
 }
 
 /// Reads an image up to its first line `end`. If an allocation fails, the reading cannot be continued.
 pub fn read_image<R: Read>(
-    input: &mut Input,
+    input: &mut InputBuffer,
     reader: &mut R,
     text: &mut Vec<u8>,
-) -> Result<ImageEnd, AllocError>
+) -> Result<ImageReadEnd, AllocError>
     requires within { IsWithinInputLimit input.old }
     requires empty { text.old.items ≡ [] }
     ensures reads { IfOk result (λ stop. (left : Bytes) → R.remaining reader.old ≡ Some left →
@@ -35,29 +35,29 @@ pub fn read_image<R: Read>(
     ensures err { OnErr result ((left : Bytes) → R.remaining reader.old ≡ Some left →
         (read : Bytes) × (rest : Bytes) × (R.remaining reader.new ≡ Some rest)
         × (input.old.bytes ++ left ≡ read ++ rest)) }
-    ensures behind { result ≡ Ok ImageEnd.EndLine → length input.new.bytes < input_block_size }
+    ensures behind { result ≡ Ok ImageReadEnd.EndLine → length input.new.bytes < input_block_size }
     ensures within { IsWithinInputLimit input.new }
 {
     let mut start = 0;
     'parts: loop {
         if input.take_text(text)? {
             if is_end_line(&text[start..]) {
-                return Ok(ImageEnd::EndLine);
+                return Ok(ImageReadEnd::EndLine);
             }
             start = text.len();
         } else {
             match input.fill(reader) {
-                ReadStatus::More => {}
-                ReadStatus::End => return Ok(ImageEnd::Ended),
-                ReadStatus::Past => return Ok(ImageEnd::Past),
-                ReadStatus::Failed => return Ok(ImageEnd::Failed),
+                ReadStatus::HasBytes => {}
+                ReadStatus::End => return Ok(ImageReadEnd::EndOfInput),
+                ReadStatus::PastLimit => return Ok(ImageReadEnd::PastLimit),
+                ReadStatus::Failed => return Ok(ImageReadEnd::Failed),
             }
         }
     }
 }
 
 fn is_end_line(line: &[u8]) -> bool
-    ensures { IsTrue result ↔ (line.now ≡ line_with_line_feed end_line) }
+    ensures { IsTrue result ↔ (line.now ≡ line_with_line_feed image_end_line) }
 {
     line == b"end\n".as_slice()
 }

@@ -2,9 +2,9 @@
 ghost use Rattle.std.specs.Prelude.{◌≡◌, ◌+◌, ◌≤◌, ◌<◌, ◌++◌, ◌∷◌, true, [], length, take, drop, slice_index, Some, IfSome, IfNone, IfOk, OnErr};
 ghost use Rattle.ga_text.specs.Lines.{Bytes, HasNoLineFeed};
 ghost use Rattle.ga_text.specs.Input.{UnreadInput, IsWithinInputLimit, input_block_size};
-ghost use Rattle.ga_text.specs.inner.{Fills, HasFilled, TakesPart, with_feed};
+ghost use Rattle.ga_text.specs.inner.{ReadsMoreInput, HasReadBytes, TakesLinePart, line_with_optional_feed};
 
-use super::lines::{LineBuffer, append_bounded};
+use super::lines::{LineBuffer, append_bounded_bytes};
 use std::alloc::AllocError;
 use std::io::Read;
 use std::marker::Model;
@@ -17,7 +17,7 @@ const INPUT_LIMIT: u32 = 16_777_216;
 
 /// What was read and is not taken yet.
 #[derive(Drop)]
-pub struct Input {
+pub struct InputBuffer {
     block: [u8; BLOCK],
     start: usize,
     end: usize,
@@ -28,16 +28,16 @@ pub struct Input {
 #[derive(Clone, Copy, PartialEq, Eq)]
 pub enum ReadStatus {
     /// There are bytes to take.
-    More,
+    HasBytes,
     /// The input ended.
     End,
     /// The input exceeds its limit.
-    Past,
+    PastLimit,
     /// The read failed.
     Failed,
 }
 
-impl Model for Input {
+impl Model for InputBuffer {
     ghost use Rattle.std.specs.Prelude.{◌+◌, ◌-◌, ◌≤◌, slice_range};
     ghost use Rattle.ga_text.specs.Input.{UnreadInput, input_limit};
 
@@ -48,12 +48,12 @@ impl Model for Input {
     ghost invariant = { λ u. (u.start ≤ u.end) × (u.end ≤ 65536) × (u.taken + (u.end - u.start) ≤ input_limit) };
 }
 
-impl Input {
+impl InputBuffer {
     /// An input of which nothing was read.
     pub fn new() -> Self
         ensures { result ≡ record { bytes = []; taken = 0 } }
     {
-        Input {
+        InputBuffer {
             block: [0; BLOCK],
             start: 0,
             end: 0,
@@ -66,8 +66,8 @@ impl Input {
         requires { self.old.bytes ≡ [] }
         ensures fills { (input : Bytes) → R.remaining reader.old ≡ Some input →
             (rest : Bytes) × (R.remaining reader.new ≡ Some rest)
-            × Fills self.old.taken input self.new.bytes rest result }
-        ensures filled { HasFilled self.new.bytes result }
+            × ReadsMoreInput self.old.taken input self.new.bytes rest result }
+        ensures filled { HasReadBytes self.new.bytes result }
         ensures taken { self.new.taken ≡ self.old.taken }
         ensures within { IsWithinInputLimit self.new }
     {
@@ -77,7 +77,7 @@ impl Input {
             let mut one = [0u8; 1];
             return match reader.read(&mut one) {
                 Ok(0) => ReadStatus::End,
-                Ok(_) => ReadStatus::Past,
+                Ok(_) => ReadStatus::PastLimit,
                 Err(_) => ReadStatus::Failed,
             };
         }
@@ -87,7 +87,7 @@ impl Input {
             Ok(0) => ReadStatus::End,
             Ok(count) => {
                 self.end = count;
-                ReadStatus::More
+                ReadStatus::HasBytes
             }
             Err(_) => ReadStatus::Failed,
         }
@@ -95,7 +95,7 @@ impl Input {
 
     /// What was read and is not taken yet.
     #[inline(always)]
-    pub fn unread(&self) -> &[u8]
+    pub fn unread_bytes(&self) -> &[u8]
         ensures { result.now ≡ self.now.bytes }
     {
         &self.block[self.start..self.end]
@@ -116,20 +116,20 @@ impl Input {
 
     /// Takes what was read, up to a line feed, and keeps at most 201 bytes of the line. Returns whether a line feed was taken.
     pub(crate) fn read_buffered_line(&mut self, line: &mut LineBuffer) -> bool
-        ensures takes { (part : Bytes) × TakesPart self.old part self.new result
+        ensures takes { (part : Bytes) × TakesLinePart self.old part self.new result
             × (line.new.items ≡ take 201 (line.old.items ++ part)) }
         ensures within { IsWithinInputLimit self.new }
     {
         let ahead = &self.block[self.start..self.end];
         match find_line_feed(ahead) {
             Some(count) => {
-                append_bounded(line, &ahead[..count]);
+                append_bounded_bytes(line, &ahead[..count]);
                 self.start += count + 1;
                 self.taken += count as u32 + 1;
                 true
             }
             None => {
-                append_bounded(line, ahead);
+                append_bounded_bytes(line, ahead);
                 self.taken += ahead.len() as u32;
                 self.start = self.end;
                 false
@@ -139,8 +139,8 @@ impl Input {
 
     /// Takes what was read, up to a line feed and with it, and adds it to a text. True where a line feed was taken.
     pub(crate) fn take_text(&mut self, text: &mut Vec<u8>) -> Result<bool, AllocError>
-        ensures takes { IfOk result (λ fed. (part : Bytes) × TakesPart self.old part self.new fed
-            × (text.new.items ≡ text.old.items ++ with_feed part fed)) }
+        ensures takes { IfOk result (λ fed. (part : Bytes) × TakesLinePart self.old part self.new fed
+            × (text.new.items ≡ text.old.items ++ line_with_optional_feed part fed)) }
         ensures behind { IfOk result (λ fed. fed ≡ true → length self.new.bytes < input_block_size) }
         ensures err { OnErr result ((self.new ≡ self.old) × (text.new.items ≡ text.old.items)) }
         ensures within { IsWithinInputLimit self.new }

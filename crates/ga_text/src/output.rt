@@ -1,7 +1,7 @@
 //! The output to a stream, buffered before it is written.
 ghost use Rattle.std.specs.Prelude.{◌≡◌, ◌++◌, ◌+◌, ◌≤◌, length, ℕ, List, [], OnOk};
 ghost use Rattle.ga_text.specs.Lines.{Bytes};
-ghost use Rattle.ga_text.specs.Output.{IsTextWritten, IsTextWrittenOrTruncated, WritesExactly, WritesNothing, ready};
+ghost use Rattle.ga_text.specs.Output.{IsTextWrittenOrPending, IsTextWrittenOrTruncated, WritesExactly, WritesNothing, writer_with_ready_line};
 
 use arrayvec::ArrayVec;
 use std::io::Write;
@@ -47,10 +47,10 @@ impl<'w, W: Write> Writer<'w, W> {
     }
 
     /// A writer with `ready` as its output.
-    pub fn ready(stream: &'w mut W) -> Self
+    pub fn writer_with_ready_line(stream: &'w mut W) -> Self
         ensures same { result.stream.ghost_name ≡ stream.entry.ghost_name }
         ensures stream { result.stream.now ≡ stream.old }
-        ensures said { result.pending.items ≡ ready }
+        ensures said { result.pending.items ≡ writer_with_ready_line }
     {
         let mut pending = ArrayVec::new();
         let _fits = pending.try_extend_from_slice(b"ready\n");
@@ -134,7 +134,7 @@ fn forget(pending: &mut ArrayVec<u8, OUTPUT_CAPACITY>)
 /// # Errors
 /// A write failed.
 pub fn write_all<W: Write>(writer: &mut W, text: &[u8]) -> WriteResult
-    ensures { (before said : Bytes) → IsTextWritten (W.contents writer.old) before said text.now →
+    ensures { (before said : Bytes) → IsTextWrittenOrPending (W.contents writer.old) before said text.now →
         IsTextWrittenOrTruncated result (W.contents writer.new) before said [] }
 {
     let mut rest = text;

@@ -2,9 +2,9 @@
 ghost use Rattle.std.specs.Prelude.{◌≡◌, ◌+◌, ◌%◌, ◌≤◌, ◌<◌, [], ◌∷◌, ◌++◌, length, codes, decimal};
 ghost use Rattle.ga_grid.specs.declared.node_id.NodeId.{NodeId};
 ghost use Rattle.arrayvec.specs.ArrayVec.{array_vec_len};
-ghost use Rattle.ga_word.specs.Word.{hex6_of};
-ghost use Rattle.ga_text.specs.Digits.{decimal3_of, hex2_of, name_of_node, step_text};
-ghost use Rattle.ga_text.specs.inner.{two_digits, four_digits};
+ghost use Rattle.ga_word.specs.Word.{hex_digits_of_word};
+ghost use Rattle.ga_text.specs.Digits.{three_decimal_digits, two_hex_digits_text, name_of_node, step_text};
+ghost use Rattle.ga_text.specs.inner.{two_digits, four_decimal_digits};
 
 use arrayvec::ArrayVec;
 use ga_grid::NodeId;
@@ -48,7 +48,7 @@ pub fn push_number<const ROOM: usize>(out: &mut ArrayVec<u8, ROOM>, number: u64)
     ensures len { array_vec_len out.new ≤ array_vec_len out.old + MAX_NUMBER_DIGITS }
 {
     if number < 100000000 {
-        push_eight_digits(out, number);
+        push_up_to_eight_digits(out, number);
     } else {
         push_long(out, number);
     }
@@ -68,7 +68,7 @@ fn push_long<const ROOM: usize>(out: &mut ArrayVec<u8, ROOM>, number: u64)
 
 /// Adds a number of at most eight decimal digits, in pieces of fixed size.
 #[inline(always)]
-pub fn push_eight_digits<const ROOM: usize>(out: &mut ArrayVec<u8, ROOM>, number: u64)
+pub fn push_up_to_eight_digits<const ROOM: usize>(out: &mut ArrayVec<u8, ROOM>, number: u64)
     requires small { number < 100000000 }
     requires room { array_vec_len out.old + length (decimal number) ≤ ROOM }
     ensures text { out.new.items ≡ out.old.items ++ decimal number }
@@ -85,7 +85,7 @@ pub fn push_eight_digits<const ROOM: usize>(out: &mut ArrayVec<u8, ROOM>, number
 #[inline(always)]
 fn four_of(number: u32) -> [u8; 4]
     requires { number < 10000 }
-    ensures { result ≡ four_digits number }
+    ensures { result ≡ four_decimal_digits number }
 {
     let [thousands, hundreds] = two_of(number / 100);
     let [tens, ones] = two_of(number % 100);
@@ -134,7 +134,7 @@ fn push_front<const ROOM: usize>(out: &mut ArrayVec<u8, ROOM>, number: u32)
 
 /// Adds a number of one digit.
 #[tactic(auto, using(std::proofs::lemmas::Fmt::decimal_digit))]
-pub fn push_digit<const ROOM: usize>(out: &mut ArrayVec<u8, ROOM>, number: u8)
+pub fn push_decimal_digit<const ROOM: usize>(out: &mut ArrayVec<u8, ROOM>, number: u8)
     requires small { number < 10 }
     requires room { array_vec_len out.old < ROOM }
     ensures text { out.new.items ≡ out.old.items ++ decimal number }
@@ -166,12 +166,12 @@ fn name_digits(node: NodeId) -> [u8; NODE_NAME_BYTES]
 fn name_spaced(node: NodeId) -> [u8; 4]
     ensures { result ≡ name_of_node node ++ codes " " }
 {
-    node_name_text(node.index() as u8)
+    node_name_and_space(node.index() as u8)
 }
 
 /// The name of the node with this number and a space, or four zeros where there is no such node.
 #[inline(always)]
-pub fn node_name_text(number: u8) -> [u8; 4]
+pub fn node_name_and_space(number: u8) -> [u8; 4]
     ensures named { (node : NodeId) → node.number ≡ number → result ≡ name_of_node node ++ codes " " }
     ensures none { 144 ≤ number → result ≡ (0 ∷ 0 ∷ 0 ∷ 0 ∷ []) }
 {
@@ -181,7 +181,7 @@ pub fn node_name_text(number: u8) -> [u8; 4]
 
 /// Adds a node's name and a space.
 #[inline(always)]
-pub fn push_node_spaced<const ROOM: usize>(out: &mut ArrayVec<u8, ROOM>, node: NodeId)
+pub fn push_node_and_space<const ROOM: usize>(out: &mut ArrayVec<u8, ROOM>, node: NodeId)
     requires { array_vec_len out.old + NODE_NAME_BYTES + 1 ≤ ROOM }
     ensures text { out.new.items ≡ out.old.items ++ (name_of_node node ++ codes " ") }
     ensures len { array_vec_len out.new ≡ array_vec_len out.old + NODE_NAME_BYTES + 1 }
@@ -203,7 +203,7 @@ pub fn push_step<const ROOM: usize>(out: &mut ArrayVec<u8, ROOM>, node: NodeId, 
 /// Adds a word in six hexadecimal digits.
 pub fn push_word<const ROOM: usize>(out: &mut ArrayVec<u8, ROOM>, word: Word18)
     requires { array_vec_len out.old + WORD_DIGITS ≤ ROOM }
-    ensures text { out.new.items ≡ out.old.items ++ hex6_of word }
+    ensures text { out.new.items ≡ out.old.items ++ hex_digits_of_word word }
     ensures len { array_vec_len out.new ≡ array_vec_len out.old + WORD_DIGITS }
 {
     push_text(out, &hex6(word));
@@ -213,7 +213,7 @@ pub fn push_word<const ROOM: usize>(out: &mut ArrayVec<u8, ROOM>, word: Word18)
 #[inline(always)]
 pub fn push_spaced_word<const ROOM: usize>(out: &mut ArrayVec<u8, ROOM>, word: Word18)
     requires { array_vec_len out.old + 1 + WORD_DIGITS ≤ ROOM }
-    ensures text { out.new.items ≡ out.old.items ++ (codes " " ++ hex6_of word) }
+    ensures text { out.new.items ≡ out.old.items ++ (codes " " ++ hex_digits_of_word word) }
     ensures len { array_vec_len out.new ≡ array_vec_len out.old + 1 + WORD_DIGITS }
 {
     let [a, b, c, d, e, f] = hex6(word);
@@ -224,29 +224,29 @@ pub fn push_spaced_word<const ROOM: usize>(out: &mut ArrayVec<u8, ROOM>, word: W
 #[inline(always)]
 #[tactic(auto, using(crate::proofs::DigitLemmas::three_bytes))]
 fn hex6(word: Word18) -> [u8; WORD_DIGITS]
-    ensures { result ≡ hex6_of word }
+    ensures { result ≡ hex_digits_of_word word }
 {
     let bits = word.get();
-    let [a, b] = hex2((bits / 65536) as u8);
-    let [c, d] = hex2((bits / 256 % 256) as u8);
-    let [e, f] = hex2((bits % 256) as u8);
+    let [a, b] = two_hex_digits((bits / 65536) as u8);
+    let [c, d] = two_hex_digits((bits / 256 % 256) as u8);
+    let [e, f] = two_hex_digits((bits % 256) as u8);
     [a, b, c, d, e, f]
 }
 
 /// Adds a number in two hexadecimal digits.
 pub fn push_hex_byte<const ROOM: usize>(out: &mut ArrayVec<u8, ROOM>, number: u8)
     requires { array_vec_len out.old + BYTE_DIGITS ≤ ROOM }
-    ensures text { out.new.items ≡ out.old.items ++ hex2_of number }
+    ensures text { out.new.items ≡ out.old.items ++ two_hex_digits_text number }
     ensures len { array_vec_len out.new ≡ array_vec_len out.old + BYTE_DIGITS }
 {
-    push_text(out, &hex2(number));
+    push_text(out, &two_hex_digits(number));
 }
 
 /// The two hexadecimal digits of a number, in lower case.
 #[inline(always)]
 #[tactic(auto, using(crate::proofs::DigitLemmas::hexadecimal_pair))]
-pub fn hex2(number: u8) -> [u8; BYTE_DIGITS]
-    ensures { result ≡ hex2_of number }
+pub fn two_hex_digits(number: u8) -> [u8; BYTE_DIGITS]
+    ensures { result ≡ two_hex_digits_text number }
 {
     let at = 2 * number as usize;
     [HEXADECIMAL[at], HEXADECIMAL[at + 1]]

@@ -1,9 +1,9 @@
 //! The words of a line: where one ends, and the node, the number or the byte that it names.
 
 ghost use Rattle.std.specs.Prelude.{◌≡◌, ◌+◌, ◌*◌, ◌<◌, [], ◌∷◌, option_map};
-ghost use Rattle.ga_grid.specs.Grid.{number_of_yxx as node_numbered, node_id, decimal_digit};
+ghost use Rattle.ga_grid.specs.Grid.{node_number_of_name as node_numbered, node_id, decimal_digit};
 ghost use Rattle.ga_text.specs.Digits.{hex_byte_value};
-ghost use Rattle.ga_text.specs.Parsing.{split_at_space, parse_node, parse_number, with_decimal_digit};
+ghost use Rattle.ga_text.specs.Parsing.{split_at_space, parse_node, parse_number, number_with_decimal_digit};
 
 use ga_grid::{NodeId, decimal_digit};
 
@@ -21,7 +21,7 @@ pub fn split_at_space(text: &[u8]) -> Option<(&[u8], &[u8])>
 }
 
 /// The node that is named by three decimal digits: its row, and two of its column.
-#[tactic(auto, unfolding(crate::specs::Parsing::parse_node, ga_grid::specs::Grid::parse_node_name))]
+#[tactic(auto, unfolding(crate::specs::Parsing::parse_node, ga_grid::specs::Grid::parse_decimal_name))]
 pub fn parse_node(word: &[u8]) -> Option<NodeId>
     ensures { result ≡ parse_node word.now }
 {
@@ -32,7 +32,7 @@ pub fn parse_node(word: &[u8]) -> Option<NodeId>
 }
 
 /// The node of three decimal digits: one of its row, and two of its column.
-#[tactic(auto, unfolding(crate::specs::Parsing::parse_node, ga_grid::specs::Grid::parse_node_name))]
+#[tactic(auto, unfolding(crate::specs::Parsing::parse_node, ga_grid::specs::Grid::parse_decimal_name))]
 #[inline(always)]
 pub fn parse_node_digits(row: u8, tens: u8, ones: u8) -> Option<NodeId>
     ensures { result ≡ parse_node (row ∷ tens ∷ ones ∷ []) }
@@ -63,14 +63,14 @@ pub fn parse_number(word: &[u8]) -> Option<u32>
     let (first, rest) = word.split_first()?;
     let mut number = decimal_digit(*first)?;
     'digits: for byte in rest {
-        number = with_decimal_digit(number, *byte)?;
+        number = number_with_decimal_digit(number, *byte)?;
     }
     Some(number)
 }
 
 /// A number with one digit more, where it had no leading zero and fits.
-fn with_decimal_digit(number: u32, byte: u8) -> Option<u32>
-    ensures { result ≡ with_decimal_digit number byte }
+fn number_with_decimal_digit(number: u32, byte: u8) -> Option<u32>
+    ensures { result ≡ number_with_decimal_digit number byte }
 {
     if number == 0 {
         return None;

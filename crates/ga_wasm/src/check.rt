@@ -2,12 +2,12 @@
 
 ghost use Rattle.std.specs.Prelude.{◌≡◌, ◌++◌, length, take, false};
 ghost use Rattle.ga_text.specs.Lines.{Bytes};
-ghost use Rattle.ga_check_report.specs.Expected.{IsProgramOutcome};
+ghost use Rattle.ga_check_report.specs.Expected.{IsProgramCheckOutcome};
 ghost use Rattle.ga_check_report.specs.declared.report.Verdict.{Verdict as Found};
 ghost use Rattle.ga_json.specs.declared.format.ReportFormat.TheVariants.{Text as AsText};
 
 use crate::buffer::{put_front, streams};
-use ga_check_report::{CheckRequest, ReportFormat, check_program};
+use ga_check_report::{CheckRequest, ReportFormat, check_expectations_or_ends};
 use ga_state_search::SearchControl;
 use std::alloc::Global;
 
@@ -24,7 +24,7 @@ pub extern "C" fn ga_check(
     asked: u32,
 ) -> usize
     ensures { (read rest text : Bytes) × (found : Found) × (input.now ≡ read ++ rest)
-        × IsProgramOutcome (record { most = most; seconds = 0; same = false; format = AsText }) limit false asked read rest text found
+        × IsProgramCheckOutcome (record { most = most; seconds = 0; same = false; format = AsText }) limit false asked read rest text found
         × (result ≡ length text) × (take result output.new ≡ take (length output.old) text) }
 {
     let (mut reader, mut answer, mut errors) = streams(alloc, input);
@@ -35,7 +35,7 @@ pub extern "C" fn ga_check(
         format: ReportFormat::Text,
     };
     let watch = SearchControl::new();
-    let _verdict = check_program(
+    let _verdict = check_expectations_or_ends(
         alloc,
         &mut reader,
         &mut answer,

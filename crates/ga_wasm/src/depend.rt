@@ -1,14 +1,14 @@
 //! What depends on a step, and on what it depends, as one call.
 
 ghost use Rattle.std.specs.Prelude.{◌≡◌, ◌⊎◌, ℕ, List, length, take, IfSome};
-ghost use Rattle.ga_grid.specs.Chip.{records_of};
-ghost use Rattle.ga_wasm.specs.inner.{AreCodes, Makes, MakesAll, code_of};
+ghost use Rattle.ga_grid.specs.Chip.{records_of_chip};
+ghost use Rattle.ga_wasm.specs.inner.{AreShadeBytes, MakesNextEventOfNode, MakesNextEventsOfNodes, byte_of_shade};
 
 use crate::buffer::put_front;
-use ga_event::{Cause, apply, cause_of, next_event};
-use ga_grid::{CHIP_NODES, Chip, NodeId};
+use ga_event::{EventWithLook, apply, event_with_look_on_chip, next_event};
+use ga_grid::{CHIP_NODE_COUNT, Chip, NodeId};
 use ga_image::parse;
-use ga_picture::{Shade, shades};
+use ga_picture::{Shade, find_event_shades};
 use std::alloc::Global;
 
 /// Makes the events that the nodes with these numbers make one after another on the chip of an image, and writes a byte for
@@ -23,7 +23,7 @@ pub extern "C" fn ga_shades(
     place: u32,
     output: &mut [u8],
 ) -> usize
-    ensures { (result ≡ 0) ⊎ ((codes : List ℕ) × AreCodes image.now nodes.now place codes
+    ensures { (result ≡ 0) ⊎ ((codes : List ℕ) × AreShadeBytes image.now nodes.now place codes
         × (result ≡ length codes) × (take result output.new ≡ take (length output.old) codes)) }
 {
     match codes(alloc, image, nodes, place) {
@@ -34,7 +34,7 @@ pub extern "C" fn ga_shades(
 
 /// The relation of each event to the one at the place.
 fn codes(alloc: Global, image: &[u8], nodes: &[u8], place: u32) -> Option<Vec<u8>>
-    ensures { IfSome result (λ codes. AreCodes image.now nodes.now place codes.items) }
+    ensures { IfSome result (λ codes. AreShadeBytes image.now nodes.now place codes.items) }
 {
     let Ok(mut chip) = parse(alloc, image) else {
         return None;
@@ -44,7 +44,7 @@ fn codes(alloc: Global, image: &[u8], nodes: &[u8], place: u32) -> Option<Vec<u8
     if place as usize >= events.len() {
         return None;
     }
-    let Ok(shaded) = shades(alloc, events, Some(place), Some(place)) else {
+    let Ok(shaded) = find_event_shades(alloc, events, Some(place), Some(place)) else {
         return None;
     };
     let shades = shaded.as_slice();
@@ -53,7 +53,7 @@ fn codes(alloc: Global, image: &[u8], nodes: &[u8], place: u32) -> Option<Vec<u8
 
 /// The byte of a colour.
 fn code(shade: Shade) -> u8
-    ensures { result ≡ code_of shade }
+    ensures { result ≡ byte_of_shade shade }
 {
     match shade {
         Shade::Grey => 0,
@@ -64,8 +64,8 @@ fn code(shade: Shade) -> u8
 
 /// Lets the nodes with these numbers make their next events, in order. None where a number is no node's, a node has no event,
 /// or memory is refused.
-fn make_all(alloc: Global, chip: &mut Chip, nodes: &[u8]) -> Option<Vec<Cause>>
-    ensures { IfSome result (λ causes. MakesAll (records_of chip.old) nodes.now causes.items (records_of chip.new)) }
+fn make_all(alloc: Global, chip: &mut Chip, nodes: &[u8]) -> Option<Vec<EventWithLook>>
+    ensures { IfSome result (λ causes. MakesNextEventsOfNodes (records_of_chip chip.old) nodes.now causes.items (records_of_chip chip.new)) }
 {
     let mut causes = Vec::new(alloc);
     'steps: for at in 0..nodes.len() {
@@ -78,16 +78,16 @@ fn make_all(alloc: Global, chip: &mut Chip, nodes: &[u8]) -> Option<Vec<Cause>>
 }
 
 /// Lets a node make its next event.
-fn make(chip: &mut Chip, number: u8) -> Option<Cause>
-    ensures { IfSome result (λ cause. Makes (records_of chip.old) number cause (records_of chip.new)) }
+fn make(chip: &mut Chip, number: u8) -> Option<EventWithLook>
+    ensures { IfSome result (λ cause. MakesNextEventOfNode (records_of_chip chip.old) number cause (records_of_chip chip.new)) }
 {
-    if number as usize >= CHIP_NODES {
+    if number as usize >= CHIP_NODE_COUNT {
         return None;
     }
     let node = NodeId::new(number);
     match next_event(chip, node) {
         Ok(event) => {
-            let cause = cause_of(chip, event);
+            let cause = event_with_look_on_chip(chip, event);
             match apply(chip, event) {
                 Ok(_effect) => Some(cause),
                 Err(_) => None,

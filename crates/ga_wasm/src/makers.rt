@@ -4,10 +4,10 @@ ghost use Rattle.std.specs.Prelude.{◌≡◌, ◌++◌, ◌⊎◌, ℕ, List, N
 ghost use Rattle.ga_text.specs.Lines.{Bytes};
 ghost use Rattle.ga_explorer.specs.Opening.{ExplorerState};
 ghost use Rattle.ga_picture.specs.Following.{IsSilentSessionResult};
-ghost use Rattle.ga_wasm.specs.inner.{maker_of, makers_of};
+ghost use Rattle.ga_wasm.specs.inner.{node_number_of_event, node_numbers_of_events};
 
 use crate::buffer::{put_front, streams};
-use ga_event::{Cause, Event};
+use ga_event::{Event, EventWithLook};
 use ga_lab::Lab;
 use ga_picture::run_silent_session;
 use std::alloc::Global;
@@ -18,7 +18,7 @@ use std::alloc::Global;
 #[unsafe(no_mangle)]
 pub extern "C" fn ga_kept(alloc: Global, input: &[u8], output: &mut [u8], limit: u32) -> usize
     ensures { (result ≡ 0) ⊎ ((read rest text : Bytes) × (last : ExplorerState) × (input.now ≡ read ++ rest)
-        × IsSilentSessionResult None limit read rest text (Ok last) × (nodes : List ℕ) × (nodes ≡ makers_of last.lab)
+        × IsSilentSessionResult None limit read rest text (Ok last) × (nodes : List ℕ) × (nodes ≡ node_numbers_of_events last.lab)
         × (result ≡ length nodes) × (take result output.new ≡ take (length output.old) nodes)) }
 {
     let (mut reader, mut refusal, mut errors) = streams(alloc, input);
@@ -30,7 +30,7 @@ pub extern "C" fn ga_kept(alloc: Global, input: &[u8], output: &mut [u8], limit:
 
 /// Writes the nodes that made the events of a lab's history.
 fn tell(alloc: Global, lab: &Lab, output: &mut [u8]) -> usize
-    ensures { (result ≡ 0) ⊎ ((nodes : List ℕ) × (nodes ≡ makers_of lab.now)
+    ensures { (result ≡ 0) ⊎ ((nodes : List ℕ) × (nodes ≡ node_numbers_of_events lab.now)
         × (result ≡ length nodes) × (take result output.new ≡ take (length output.old) nodes)) }
 {
     match makers(alloc, lab) {
@@ -41,7 +41,7 @@ fn tell(alloc: Global, lab: &Lab, output: &mut [u8]) -> usize
 
 /// The nodes that made a lab's kept events.
 fn makers(alloc: Global, lab: &Lab) -> Option<Vec<u8>>
-    ensures { IfSome result (λ nodes. nodes.items ≡ makers_of lab.now) }
+    ensures { IfSome result (λ nodes. nodes.items ≡ node_numbers_of_events lab.now) }
 {
     match lab.causes() {
         Ok(causes) => {
@@ -53,8 +53,8 @@ fn makers(alloc: Global, lab: &Lab) -> Option<Vec<u8>>
 }
 
 /// The node whose step makes an event.
-fn maker(cause: Cause) -> u8
-    ensures { result ≡ maker_of cause }
+fn maker(cause: EventWithLook) -> u8
+    ensures { result ≡ node_number_of_event cause }
 {
     match cause.event {
         Event::Own(node) => node.number,

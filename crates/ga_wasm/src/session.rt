@@ -5,11 +5,11 @@ ghost use Rattle.ga_text.specs.Lines.{Bytes};
 ghost use Rattle.ga_console.specs.declared.run.Status.{Status as Ended};
 ghost use Rattle.ga_explorer.specs.Session.{RunsExplorer};
 ghost use Rattle.ga_explorer_json.specs.Session.{RunsJsonExplorer};
-ghost use Rattle.ga_wasm.specs.inner.{number_of};
+ghost use Rattle.ga_wasm.specs.inner.{number_of_exit_status};
 
 use crate::buffer::{put_front, streams};
 use ga_console::Status;
-use ga_explorer::explore;
+use ga_explorer::serve_explorer_session;
 use ga_explorer_json::explore_json;
 use std::alloc::Global;
 
@@ -27,10 +27,10 @@ pub extern "C" fn ga_session(
     ensures { (read rest text : Bytes) × (status : Ended) × (input.now ≡ read ++ rest)
         × RunsExplorer false false None limit read rest text status
         × (result ≡ length text) × (take result output.new ≡ take (length output.old) text)
-        × (take 1 ended.new ≡ take (length ended.old) (number_of status ∷ [])) }
+        × (take 1 ended.new ≡ take (length ended.old) (number_of_exit_status status ∷ [])) }
 {
     let (mut reader, mut answers, mut errors) = streams(alloc, input);
-    let status = explore(
+    let status = serve_explorer_session(
         alloc,
         &mut reader,
         &mut answers,
@@ -57,7 +57,7 @@ pub extern "C" fn ga_session_json(
     ensures { (read rest text : Bytes) × (status : Ended) × (input.now ≡ read ++ rest)
         × RunsJsonExplorer false (codes "-") None limit read rest text status
         × (result ≡ length text) × (take result output.new ≡ take (length output.old) text)
-        × (take 1 ended.new ≡ take (length ended.old) (number_of status ∷ [])) }
+        × (take 1 ended.new ≡ take (length ended.old) (number_of_exit_status status ∷ [])) }
 {
     let (mut reader, mut answers, mut errors) = streams(alloc, input);
     let status = explore_json(
@@ -76,7 +76,7 @@ pub extern "C" fn ga_session_json(
 
 /// The exit status of a session that ended so.
 fn number(status: Status) -> u8
-    ensures { result ≡ number_of status }
+    ensures { result ≡ number_of_exit_status status }
 {
     match status {
         Status::Done => 0,

@@ -6,13 +6,13 @@ use Rattle.std.proofs.lemmas.Bool.{ne_eqb, eqb-false}
 use Rattle.hex.specs.declared.error.FromHexError.{FromHexError}
 use Rattle.hex.specs.declared.error.FromHexError.TheVariants.{OddLength, InvalidStringLength}
 use Rattle.hex.specs.Hex.{encode_with, encode_lower, lower_digits, decode_pairs, decode_sized, digit_or_error, hex_digit_value, ◌>>=◌}
-use Rattle.ga_word.specs.Word.{word_modulus, hex6_of, hex6_value, digits_value}
+use Rattle.ga_word.specs.Word.{word_modulus, hex_digits_of_word, six_hex_digits_value, hex_digits_value}
 
 -- six digits from equal places
 pub six_same : (a b c d e f a' b' c' d' e' f' : ℕ) → a ≡ a' → b ≡ b' → c ≡ c' → d ≡ d' → e ≡ e' → f ≡ f' → (a ∷ b ∷ c ∷ d ∷ e ∷ f ∷ []) ≡ (a' ∷ b' ∷ c' ∷ d' ∷ e' ∷ f' ∷ [])
 six_same a b c d e f a' b' c' d' e' f' p q r s t u = cc
 
-pub hex6_of_bytes : (n : ℕ) → n < word_modulus → encode_lower (n / 65536 ∷ n / 256 % 256 ∷ n % 256 ∷ []) ≡ hex6_of n
+pub hex6_of_bytes : (n : ℕ) → n < word_modulus → encode_lower (n / 65536 ∷ n / 256 % 256 ∷ n % 256 ∷ []) ≡ hex_digits_of_word n
 unfolding encode_with
 hex6_of_bytes n h =
     six_same _ _ _ _ _ _ _ _ _ _ _ _
@@ -76,15 +76,15 @@ chosen true half bytes number other none = none
 chosen false true bytes number other none = absurd (let clash : true ≡ false = other refl in cc)
 chosen false false bytes number other none = none
 
-other_agree : (text : List ℕ) → length text ≢ 6 → Agrees (decode_sized text 3) (hex6_value text)
+other_agree : (text : List ℕ) → length text ≢ 6 → Agrees (decode_sized text 3) (six_hex_digits_value text)
 other_agree text other =
-    let none : hex6_value text ≡ None = ap (λ (b : Bool). cond b (digits_value 0 text) None) (ne_eqb (length text) 6 other) in
-    chosen (length text % 2 == 1) (length text / 2 == 3) (decode_pairs 0 text) (hex6_value text)
+    let none : six_hex_digits_value text ≡ None = ap (λ (b : Bool). cond b (hex_digits_value 0 text) None) (ne_eqb (length text) 6 other) in
+    chosen (length text % 2 == 1) (length text / 2 == 3) (decode_pairs 0 text) (six_hex_digits_value text)
     (λ even. ne_eqb (length text / 2) 3 (λ half. other (let none_left : length text % 2 ≢ 1 = eqb-false (length text % 2) 1 even in omega arith)))
     none
 
 -- a text of digits, or of anything else
-pub text_agrees : (text : List ℕ) → Agrees (decode_sized text 3) (hex6_value text)
+pub text_agrees : (text : List ℕ) → Agrees (decode_sized text 3) (six_hex_digits_value text)
 unfolding decode_pairs
 text_agrees [] = other_agree [] (λ e. absurd (omega arith))
 text_agrees (a ∷ []) = other_agree (a ∷ []) (λ e. absurd (omega arith))

@@ -2,7 +2,7 @@
 #![tactic(auto)]
 
 ghost use Rattle.std.specs.Prelude.{◌≡◌, ◌+◌, ◌*◌, ◌%◌, ◌^◌, ◌<◌, ◌↔◌, nat_le, IsSome, IfSome};
-ghost use Rattle.ga_word.specs.Word.{word_modulus, carry_value, signed_value_of, doubled_word, halved_word, multiply_step_sum, multiply_step_t, multiply_step_a, hex6_of, hex6_value};
+ghost use Rattle.ga_word.specs.Word.{word_modulus, carry_value, signed_word_value, doubled_word, halved_word, multiply_step_sum, multiply_step_t, multiply_step_a, hex_digits_of_word, six_hex_digits_value};
 
 use std::fmt;
 use std::marker::Model;
@@ -79,8 +79,8 @@ impl Word18 {
     }
 
     /// The value of the word in two's complement: -2^17 to 2^17 - 1.
-    pub fn signed(self) -> i32
-        ensures { result ≡ signed_value_of self }
+    pub fn to_signed_value(self) -> i32
+        ensures { result ≡ signed_word_value self }
     {
         if self.bits < SIGN {
             self.bits as i32
@@ -111,15 +111,20 @@ impl Word18 {
         ensures high { result.0 ≡ multiply_step_t (multiply_step_sum t s a) }
         ensures low { result.1 ≡ multiply_step_a (multiply_step_sum t s a) a }
     {
-        let sum = t.signed() + if a.bits % 2 == 1 { s.signed() } else { 0 };
+        let sum = t.to_signed_value()
+            + if a.bits % 2 == 1 {
+                s.to_signed_value()
+            } else {
+                0
+            };
         let high = sum.div_euclid(2).rem_euclid(WORDS as i32) as u32;
         let low = (a.bits >> 1) + (sum.rem_euclid(2) as u32) * SIGN;
         (Word18 { bits: high }, Word18 { bits: low })
     }
 
     /// The word as six hexadecimal digits in lower case.
-    pub fn hex6(self) -> [u8; 6]
-        ensures { result ≡ hex6_of self }
+    pub fn to_hex_digits(self) -> [u8; 6]
+        ensures { result ≡ hex_digits_of_word self }
     {
         let bytes = [
             (self.bits / 65536) as u8,
@@ -132,8 +137,8 @@ impl Word18 {
     }
 
     /// The number of exactly six hexadecimal digits in either case. It may be past the greatest word.
-    pub fn parse_hex6(text: &[u8]) -> Option<u32>
-        ensures value { result ≡ hex6_value text.now }
+    pub fn parse_six_hex_digits(text: &[u8]) -> Option<u32>
+        ensures value { result ≡ six_hex_digits_value text.now }
         ensures in_range { IfSome result (λ number. number < 2 ^ 24) }
     {
         let mut bytes = [0u8; 3];

@@ -1,6 +1,6 @@
 //! The values of options, as clap's parsers left them.
 ghost use Rattle.std.specs.Prelude.{◌≤◌, IfOk, IfSome};
-ghost use Rattle.ga_console.specs.Settings.{IsBetween};
+ghost use Rattle.ga_console.specs.Settings.{IsNumberBetween};
 
 use crate::settings::CommandLineFault;
 use crate::settings::refusals::{no_kind, no_step};
@@ -41,7 +41,7 @@ fn push_name(alloc: Global, files: &mut Vec<String>, name: &str) -> Result<(), C
 
 /// The maximum number of seconds, if one is given.
 pub(super) fn seconds(text: Option<&str>) -> Result<Option<u32>, CommandLineFault>
-    ensures in_range { IfOk result (λ seconds. IfSome seconds (λ n. IsBetween 1 4294967295 n)) }
+    ensures in_range { IfOk result (λ seconds. IfSome seconds (λ n. IsNumberBetween 1 4294967295 n)) }
 {
     match text {
         None => Ok(None),
@@ -51,7 +51,7 @@ pub(super) fn seconds(text: Option<&str>) -> Result<Option<u32>, CommandLineFaul
 
 /// The number of a kind of end, counted from 1, where one is given, spelled as in a command.
 pub(super) fn kind(alloc: Global, text: Option<&str>) -> Result<Option<u32>, CommandLineFault>
-    ensures in_range { IfOk result (λ kind. IfSome kind (λ n. IsBetween 1 4294967295 n)) }
+    ensures in_range { IfOk result (λ kind. IfSome kind (λ n. IsNumberBetween 1 4294967295 n)) }
 {
     match text {
         None => Ok(None),
@@ -92,7 +92,7 @@ pub(super) fn limit(
 ) -> Result<u32, CommandLineFault>
     requires positive { 1 ≤ usual }
     requires below { usual ≤ greatest }
-    ensures in_range { IfOk result (λ n. IsBetween 1 greatest n) }
+    ensures in_range { IfOk result (λ n. IsNumberBetween 1 greatest n) }
 {
     match matches.get_str("limit") {
         None => Ok(usual),
@@ -102,8 +102,8 @@ pub(super) fn limit(
 
 /// A number from 1 on, or this one where none is given.
 pub(super) fn place(text: Option<&str>, usual: u32) -> Result<u32, CommandLineFault>
-    requires { IsBetween 1 4294967295 usual }
-    ensures in_range { IfOk result (λ n. IsBetween 1 4294967295 n) }
+    requires { IsNumberBetween 1 4294967295 usual }
+    ensures in_range { IfOk result (λ n. IsNumberBetween 1 4294967295 n) }
 {
     match text {
         None => Ok(usual),
@@ -145,7 +145,7 @@ pub(super) fn step(
 
 /// A number from 1 to the greatest. That it is one was seen by its parser.
 pub(super) fn number(text: Option<&str>, greatest: u32) -> Result<u32, CommandLineFault>
-    ensures in_range { IfOk result (λ n. IsBetween 1 greatest n) }
+    ensures in_range { IfOk result (λ n. IsNumberBetween 1 greatest n) }
 {
     let Some(text) = text else {
         return Err(CommandLineFault::Memory);

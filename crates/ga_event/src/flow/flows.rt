@@ -1,39 +1,39 @@
 //! Where the values come from that an event leaves: the table of opcodes once more, its changes from the last to the first.
 
 ghost use Rattle.std.specs.Prelude.{◌≡◌, ◌≤◌, ◌∷◌, []};
-ghost use Rattle.ga_ports.specs.Address.{IsValidTarget};
-ghost use Rattle.ga_node.specs.Record.{record_of};
-ghost use Rattle.ga_node.specs.Table.{next_action_of};
+ghost use Rattle.ga_ports.specs.Address.{IsTargetInRange};
+ghost use Rattle.ga_node.specs.Record.{record_of_node};
+ghost use Rattle.ga_node.specs.Table.{next_action_of_node};
 ghost use Rattle.ga_event.specs.declared.flow.part.NodePart.TheVariants.{P};
-ghost use Rattle.ga_event.specs.Flow.{Same, From, SetI, SetP, StartAgain, IsNodePart, choice, choice_target, moves_by_choice, fetch_moves, execute_moves, multiply_moves, send_moves, take_moves, flow_by_choice, flow_of_own_event, send_flow, take_flow, flow_of, HasValidSources, IsFlowSource};
-ghost use Rattle.ga_event.specs.inner.{sought_of, At, before_all, read_before, write_before, count_before, IsSought};
+ghost use Rattle.ga_event.specs.Flow.{CopiedFromPart, From, SetI, SetP, ReturnToFirstSlot, IsNodePartInRange, deciding_test_or_target, deciding_target, flow_changes_by_test_or_target, fetch_flow_changes, execute_flow_changes, multiply_flow_changes, send_flow_changes, take_flow_changes, flow_by_test_or_target, flow_of_own_event, flow_after_send, flow_after_take, flow_of_stored_flow, ComputesNothingFromOutsideWord, IsPartInRangeOrOutsideWord};
+ghost use Rattle.ga_event.specs.inner.{trace_of_traced_part, At, trace_before_changes, trace_before_read, trace_before_write, trace_before_count_down, IsValidOriginTrace};
 
 use super::sought::TracedPart;
-use super::{ActionChoice, Flow, NodePart, from_one, from_three, from_two};
-use ga_node::{NextAction, Node, Place, Wait};
+use super::{DecidingTestOrTarget, NodePart, ValueFlow, from_one, from_three, from_two};
+use ga_node::{NextAction, Node, NodePlace, Wait};
 use ga_ports::{AddressTarget, classify_address};
 use ga_slots::{Op, opcode};
 use ga_word::Word18;
 
 // The slot that comes next, and the instruction word.
-#[tactic(auto, unfolding(ga_node::specs::Record::record_of))]
+#[tactic(auto, unfolding(ga_node::specs::Record::record_of_node))]
 fn slot_of(node: &Node) -> u8
-    ensures value { result ≡ (record_of node.now).slot }
+    ensures value { result ≡ (record_of_node node.now).slot }
     ensures in_range { result ≤ 4 }
 {
-    node.get(Place::Slot) as u8
+    node.get(NodePlace::Slot) as u8
 }
 
-#[tactic(auto, unfolding(ga_node::specs::Record::record_of))]
+#[tactic(auto, unfolding(ga_node::specs::Record::record_of_node))]
 fn i_of(node: &Node) -> Word18
-    ensures { result ≡ (record_of node.now).i }
+    ensures { result ≡ (record_of_node node.now).i }
 {
-    Word18::from_low_bits(node.get(Place::I))
+    Word18::from_low_bits(node.get(NodePlace::I))
 }
 
 /// What comes next in a node that runs.
-pub fn next_action_in(node: &Node) -> NextAction
-    ensures { result ≡ next_action_of (record_of node.now) }
+pub fn next_action_of_running_node(node: &Node) -> NextAction
+    ensures { result ≡ next_action_of_node (record_of_node node.now) }
 {
     let slot = slot_of(node);
     if slot == 4 {
@@ -43,68 +43,77 @@ pub fn next_action_in(node: &Node) -> NextAction
 }
 
 // What decides the next event besides its opcode.
-#[tactic(auto, unfolding(ga_node::specs::Record::record_of))]
-fn choice_of(node: &Node, due: NextAction) -> ActionChoice
-    ensures value { result ≡ choice due (record_of node.now) }
-    ensures in_range { IsValidTarget (choice_target result) }
+#[tactic(auto, unfolding(ga_node::specs::Record::record_of_node))]
+fn choice_of(node: &Node, due: NextAction) -> DecidingTestOrTarget
+    ensures value { result ≡ deciding_test_or_target due (record_of_node node.now) }
+    ensures in_range { IsTargetInRange (deciding_target result) }
 {
     match due {
-        NextAction::Fetch => ActionChoice::At(classify_address(node.get(Place::P))),
+        NextAction::Fetch => DecidingTestOrTarget::TargetChoice(classify_address(node.get(
+            NodePlace::P,
+        ))),
         NextAction::Run(op) => choice_by(node, op),
     }
 }
 
 // What decides an opcode that comes next, besides the opcode itself.
-#[tactic(auto, unfolding(ga_node::specs::Record::record_of))]
-fn choice_by(node: &Node, op: Op) -> ActionChoice
-    ensures value { result ≡ choice (NextAction.Run op) (record_of node.now) }
-    ensures in_range { IsValidTarget (choice_target result) }
+#[tactic(auto, unfolding(ga_node::specs::Record::record_of_node))]
+fn choice_by(node: &Node, op: Op) -> DecidingTestOrTarget
+    ensures value { result ≡ deciding_test_or_target (NextAction.Run op) (record_of_node node.now) }
+    ensures in_range { IsTargetInRange (deciding_target result) }
 {
     match op {
-        Op::Unext | Op::Next => ActionChoice::Test(node.r(0) == 0),
-        Op::If => ActionChoice::Test(node.d(0) == 0),
-        Op::MinusIf => ActionChoice::Test(node.d(0) / 131072 == 0),
-        Op::Plus => ActionChoice::Test(node.get(Place::P) / 512 % 2 == 1),
-        Op::FetchP | Op::StoreP => ActionChoice::At(classify_address(node.get(Place::P))),
-        Op::FetchPlus | Op::Fetch | Op::StorePlus | Op::Store => ActionChoice::At(classify_address(
-            node.get(Place::A),
-        )),
-        Op::FetchB | Op::StoreB => ActionChoice::At(classify_address(node.get(Place::B))),
-        _ => ActionChoice::Plain,
+        Op::Unext | Op::Next => DecidingTestOrTarget::TestResult(node.word_of_return_stack(0) == 0),
+        Op::If => DecidingTestOrTarget::TestResult(node.word_of_data_stack(0) == 0),
+        Op::MinusIf => DecidingTestOrTarget::TestResult(node.word_of_data_stack(0) / 131072 == 0),
+        Op::Plus => DecidingTestOrTarget::TestResult(node.get(NodePlace::P) / 512 % 2 == 1),
+        Op::FetchP | Op::StoreP => DecidingTestOrTarget::TargetChoice(classify_address(node.get(
+            NodePlace::P,
+        ))),
+        Op::FetchPlus | Op::Fetch | Op::StorePlus | Op::Store => DecidingTestOrTarget::TargetChoice(
+            classify_address(node.get(NodePlace::A)),
+        ),
+        Op::FetchB | Op::StoreB => DecidingTestOrTarget::TargetChoice(classify_address(node.get(
+            NodePlace::B,
+        ))),
+        _ => DecidingTestOrTarget::Plain,
     }
 }
 
 // A part followed back over a word read at the address and pushed, where `later` is followed back over what came after it.
-fn before_read(choice: ActionChoice, part: NodePart, later: TracedPart) -> TracedPart
-    requires choice { IsValidTarget (choice_target choice) }
-    requires part { IsNodePart part }
-    requires known { IsSought (sought_of later) }
-    ensures value { sought_of result ≡ read_before (choice_target choice) part (sought_of later) }
-    ensures known { IsSought (sought_of result) }
+fn before_read(choice: DecidingTestOrTarget, part: NodePart, later: TracedPart) -> TracedPart
+    requires choice { IsTargetInRange (deciding_target choice) }
+    requires part { IsNodePartInRange part }
+    requires known { IsValidOriginTrace (trace_of_traced_part later) }
+    ensures value { trace_of_traced_part result ≡ trace_before_read (deciding_target choice) part (trace_of_traced_part later) }
+    ensures known { IsValidOriginTrace (trace_of_traced_part result) }
 {
     match choice.target() {
-        AddressTarget::Ram(k) => later.push_data(Flow::Same(NodePart::Ram(k))),
-        AddressTarget::Rom(k) => later.push_data(Flow::Same(NodePart::Rom(k))),
-        AddressTarget::Io => later.push_data(Flow::Same(NodePart::Outside)),
+        AddressTarget::Ram(k) => later.push_data(ValueFlow::CopiedFromPart(NodePart::Ram(k))),
+        AddressTarget::Rom(k) => later.push_data(ValueFlow::CopiedFromPart(NodePart::Rom(k))),
+        AddressTarget::Io => later.push_data(ValueFlow::CopiedFromPart(NodePart::OutsideWord)),
         AddressTarget::Ports(_) => TracedPart::At(part).set_wait(),
         AddressTarget::Bad => TracedPart::At(part).set_stop(),
     }
 }
 
 // A part followed back over T written at the address, where `later` is followed back over what came after it.
-fn before_write(choice: ActionChoice, part: NodePart, later: TracedPart) -> TracedPart
-    requires choice { IsValidTarget (choice_target choice) }
-    requires part { IsNodePart part }
-    requires known { IsSought (sought_of later) }
-    ensures value { sought_of result ≡ write_before (choice_target choice) part (sought_of later) }
-    ensures known { IsSought (sought_of result) }
+fn before_write(choice: DecidingTestOrTarget, part: NodePart, later: TracedPart) -> TracedPart
+    requires choice { IsTargetInRange (deciding_target choice) }
+    requires part { IsNodePartInRange part }
+    requires known { IsValidOriginTrace (trace_of_traced_part later) }
+    ensures value { trace_of_traced_part result ≡ trace_before_write (deciding_target choice) part (trace_of_traced_part later) }
+    ensures known { IsValidOriginTrace (trace_of_traced_part result) }
 {
     match choice.target() {
-        AddressTarget::Ram(k) => later.set(NodePart::Ram(k), Flow::Same(NodePart::T)),
+        AddressTarget::Ram(k) => later.set(
+            NodePart::Ram(k),
+            ValueFlow::CopiedFromPart(NodePart::T),
+        ),
         AddressTarget::Rom(_) => later,
-        AddressTarget::Io => later.set(NodePart::Io, Flow::Same(NodePart::T)),
+        AddressTarget::Io => later.set(NodePart::Io, ValueFlow::CopiedFromPart(NodePart::T)),
         AddressTarget::Ports(sides) => {
-            if sides.single().is_some() {
+            if sides.only_side().is_some() {
                 TracedPart::At(part).set_wait()
             } else {
                 TracedPart::At(part).set_stop()
@@ -116,28 +125,28 @@ fn before_write(choice: ActionChoice, part: NodePart, later: TracedPart) -> Trac
 
 // A part followed back over an instruction word fetched from the source.
 fn before_word(part: NodePart, source: NodePart) -> TracedPart
-    requires part { IsNodePart part }
-    requires source { IsFlowSource source }
-    ensures value { sought_of result ≡ before_all (SetI (Same source) ∷ SetP (From (P ∷ [])) ∷ StartAgain ∷ []) (At part) }
-    ensures known { IsSought (sought_of result) }
+    requires part { IsNodePartInRange part }
+    requires source { IsPartInRangeOrOutsideWord source }
+    ensures value { trace_of_traced_part result ≡ trace_before_changes (SetI (CopiedFromPart source) ∷ SetP (From (P ∷ [])) ∷ ReturnToFirstSlot ∷ []) (At part) }
+    ensures known { IsValidOriginTrace (trace_of_traced_part result) }
 {
     TracedPart::At(part)
         .start_again()
         .advance(NodePart::P)
-        .set(NodePart::I, Flow::Same(source))
+        .set(NodePart::I, ValueFlow::CopiedFromPart(source))
 }
 
 // A part followed back over a fetch.
-fn before_fetch(choice: ActionChoice, part: NodePart) -> TracedPart
-    requires choice { IsValidTarget (choice_target choice) }
-    requires part { IsNodePart part }
-    ensures value { sought_of result ≡ before_all (fetch_moves (choice_target choice)) (At part) }
-    ensures known { IsSought (sought_of result) }
+fn before_fetch(choice: DecidingTestOrTarget, part: NodePart) -> TracedPart
+    requires choice { IsTargetInRange (deciding_target choice) }
+    requires part { IsNodePartInRange part }
+    ensures value { trace_of_traced_part result ≡ trace_before_changes (fetch_flow_changes (deciding_target choice)) (At part) }
+    ensures known { IsValidOriginTrace (trace_of_traced_part result) }
 {
     match choice.target() {
         AddressTarget::Ram(k) => before_word(part, NodePart::Ram(k)),
         AddressTarget::Rom(k) => before_word(part, NodePart::Rom(k)),
-        AddressTarget::Io => before_word(part, NodePart::Outside),
+        AddressTarget::Io => before_word(part, NodePart::OutsideWord),
         AddressTarget::Ports(_) => TracedPart::At(part).set_wait(),
         AddressTarget::Bad => TracedPart::At(part).set_stop(),
     }
@@ -145,20 +154,20 @@ fn before_fetch(choice: ActionChoice, part: NodePart) -> TracedPart
 
 // A part followed back over `ex`.
 fn before_execute(at: TracedPart) -> TracedPart
-    requires { IsSought (sought_of at) }
-    ensures value { sought_of result ≡ before_all execute_moves (sought_of at) }
-    ensures known { IsSought (sought_of result) }
+    requires { IsValidOriginTrace (trace_of_traced_part at) }
+    ensures value { trace_of_traced_part result ≡ trace_before_changes execute_flow_changes (trace_of_traced_part at) }
+    ensures known { IsValidOriginTrace (trace_of_traced_part result) }
 {
     at.skip()
-        .set(NodePart::R, Flow::Same(NodePart::P))
+        .set(NodePart::R, ValueFlow::CopiedFromPart(NodePart::P))
         .set(NodePart::P, from_one(NodePart::R))
 }
 
 // A part followed back over `+*`.
 fn before_multiply(at: TracedPart) -> TracedPart
-    requires { IsSought (sought_of at) }
-    ensures value { sought_of result ≡ before_all multiply_moves (sought_of at) }
-    ensures known { IsSought (sought_of result) }
+    requires { IsValidOriginTrace (trace_of_traced_part at) }
+    ensures value { trace_of_traced_part result ≡ trace_before_changes multiply_flow_changes (trace_of_traced_part at) }
+    ensures known { IsValidOriginTrace (trace_of_traced_part result) }
 {
     at.go_on()
         .set(
@@ -173,28 +182,31 @@ fn before_multiply(at: TracedPart) -> TracedPart
 
 // A part followed back over the writer's half of a transfer.
 fn before_send(part: NodePart) -> TracedPart
-    requires { IsNodePart part }
-    ensures value { sought_of result ≡ before_all send_moves (At part) }
-    ensures known { IsSought (sought_of result) }
+    requires { IsNodePartInRange part }
+    ensures value { trace_of_traced_part result ≡ trace_before_changes send_flow_changes (At part) }
+    ensures known { IsValidOriginTrace (trace_of_traced_part result) }
 {
     TracedPart::At(part).go_on().pop_data().set_wait()
 }
 
 // A part followed back over the reader's half of a transfer, of a node that waited for this.
 fn before_take(wait: Wait, part: NodePart) -> TracedPart
-    requires { IsNodePart part }
-    ensures value { sought_of result ≡ before_all (take_moves wait) (At part) }
-    ensures known { IsSought (sought_of result) }
+    requires { IsNodePartInRange part }
+    ensures value { trace_of_traced_part result ≡ trace_before_changes (take_flow_changes wait) (At part) }
+    ensures known { IsValidOriginTrace (trace_of_traced_part result) }
 {
     match wait {
         Wait::Nothing => TracedPart::At(part),
         Wait::Fetch(_) => TracedPart::At(part)
             .start_again()
-            .set(NodePart::I, Flow::Same(NodePart::Outside))
+            .set(
+                NodePart::I,
+                ValueFlow::CopiedFromPart(NodePart::OutsideWord),
+            )
             .set_wait(),
         Wait::Read(_) => TracedPart::At(part)
             .go_on()
-            .push_data(Flow::Same(NodePart::Outside))
+            .push_data(ValueFlow::CopiedFromPart(NodePart::OutsideWord))
             .set_wait(),
         Wait::Write(_) => TracedPart::At(part),
     }
@@ -202,11 +214,11 @@ fn before_take(wait: Wait, part: NodePart) -> TracedPart
 
 // A part followed back over the opcode.
 #[tactic(auto, using(crate::proofs::Following::read_found, crate::proofs::Following::write_found, crate::proofs::Following::count_found))]
-fn before_op(op: Op, choice: ActionChoice, part: NodePart) -> TracedPart
-    requires choice { IsValidTarget (choice_target choice) }
-    requires part { IsNodePart part }
-    ensures value { sought_of result ≡ before_all (moves_by_choice (NextAction.Run op) choice) (At part) }
-    ensures known { IsSought (sought_of result) }
+fn before_op(op: Op, choice: DecidingTestOrTarget, part: NodePart) -> TracedPart
+    requires choice { IsTargetInRange (deciding_target choice) }
+    requires part { IsNodePartInRange part }
+    ensures value { trace_of_traced_part result ≡ trace_before_changes (flow_changes_by_test_or_target (NextAction.Run op) choice) (At part) }
+    ensures known { IsValidOriginTrace (trace_of_traced_part result) }
 {
     let at = TracedPart::At(part);
     match op {
@@ -216,7 +228,9 @@ fn before_op(op: Op, choice: ActionChoice, part: NodePart) -> TracedPart
             .set(NodePart::P, from_one(NodePart::R)),
         Op::Execute => before_execute(at),
         Op::Jump => at.jump(),
-        Op::Call => at.jump().push_return(Flow::Same(NodePart::P)),
+        Op::Call => at
+            .jump()
+            .push_return(ValueFlow::CopiedFromPart(NodePart::P)),
         Op::Unext => before_count(
             choice.holds(),
             at.go_on(),
@@ -241,12 +255,18 @@ fn before_op(op: Op, choice: ActionChoice, part: NodePart) -> TracedPart
         Op::And => at.go_on().pop_to(from_two(NodePart::T, NodePart::S)),
         Op::Or => at.go_on().pop_to(from_two(NodePart::T, NodePart::S)),
         Op::Drop => at.go_on().pop_data(),
-        Op::Dup => at.go_on().push_data(Flow::Same(NodePart::T)),
-        Op::Pop => at.go_on().pop_return().push_data(Flow::Same(NodePart::R)),
-        Op::Over => at.go_on().push_data(Flow::Same(NodePart::S)),
-        Op::A => at.go_on().push_data(Flow::Same(NodePart::A)),
+        Op::Dup => at.go_on().push_data(ValueFlow::CopiedFromPart(NodePart::T)),
+        Op::Pop => at
+            .go_on()
+            .pop_return()
+            .push_data(ValueFlow::CopiedFromPart(NodePart::R)),
+        Op::Over => at.go_on().push_data(ValueFlow::CopiedFromPart(NodePart::S)),
+        Op::A => at.go_on().push_data(ValueFlow::CopiedFromPart(NodePart::A)),
         Op::Nop => at.go_on(),
-        Op::Push => at.go_on().pop_data().push_return(Flow::Same(NodePart::T)),
+        Op::Push => at
+            .go_on()
+            .pop_data()
+            .push_return(ValueFlow::CopiedFromPart(NodePart::T)),
         Op::BStore => at
             .go_on()
             .pop_data()
@@ -254,16 +274,16 @@ fn before_op(op: Op, choice: ActionChoice, part: NodePart) -> TracedPart
         Op::AStore => at
             .go_on()
             .pop_data()
-            .set(NodePart::A, Flow::Same(NodePart::T)),
+            .set(NodePart::A, ValueFlow::CopiedFromPart(NodePart::T)),
     }
 }
 
 // A part followed back over R popped, where it had ended, or else counted down; what came after each is followed back already.
 fn before_count(ends: bool, last: TracedPart, again: TracedPart) -> TracedPart
-    requires last { IsSought (sought_of last) }
-    requires again { IsSought (sought_of again) }
-    ensures value { sought_of result ≡ count_before ends (sought_of last) (sought_of again) }
-    ensures known { IsSought (sought_of result) }
+    requires last { IsValidOriginTrace (trace_of_traced_part last) }
+    requires again { IsValidOriginTrace (trace_of_traced_part again) }
+    ensures value { trace_of_traced_part result ≡ trace_before_count_down ends (trace_of_traced_part last) (trace_of_traced_part again) }
+    ensures known { IsValidOriginTrace (trace_of_traced_part result) }
 {
     if ends {
         last.pop_return()
@@ -273,10 +293,10 @@ fn before_count(ends: bool, last: TracedPart, again: TracedPart) -> TracedPart
 }
 
 // A part followed back over `+`.
-fn before_plus(choice: ActionChoice, at: TracedPart) -> TracedPart
-    requires { IsSought (sought_of at) }
-    ensures value { sought_of result ≡ before_all (moves_by_choice (NextAction.Run Op.Plus) choice) (sought_of at) }
-    ensures known { IsSought (sought_of result) }
+fn before_plus(choice: DecidingTestOrTarget, at: TracedPart) -> TracedPart
+    requires { IsValidOriginTrace (trace_of_traced_part at) }
+    ensures value { trace_of_traced_part result ≡ trace_before_changes (flow_changes_by_test_or_target (NextAction.Run Op.Plus) choice) (trace_of_traced_part at) }
+    ensures known { IsValidOriginTrace (trace_of_traced_part result) }
 {
     if choice.holds() {
         at.go_on()
@@ -291,11 +311,11 @@ fn before_plus(choice: ActionChoice, at: TracedPart) -> TracedPart
 }
 
 // A part followed back over what comes next in its node.
-fn before_due(due: NextAction, choice: ActionChoice, part: NodePart) -> TracedPart
-    requires choice { IsValidTarget (choice_target choice) }
-    requires part { IsNodePart part }
-    ensures value { sought_of result ≡ before_all (moves_by_choice due choice) (At part) }
-    ensures known { IsSought (sought_of result) }
+fn before_due(due: NextAction, choice: DecidingTestOrTarget, part: NodePart) -> TracedPart
+    requires choice { IsTargetInRange (deciding_target choice) }
+    requires part { IsNodePartInRange part }
+    ensures value { trace_of_traced_part result ≡ trace_before_changes (flow_changes_by_test_or_target due choice) (At part) }
+    ensures known { IsValidOriginTrace (trace_of_traced_part result) }
 {
     match due {
         NextAction::Fetch => before_fetch(choice, part),
@@ -306,40 +326,44 @@ fn before_due(due: NextAction, choice: ActionChoice, part: NodePart) -> TracedPa
 /// Where the value of a part comes from after the node's next event of its own, if it makes one (DB001, opcodes): from which
 /// parts of the node before. In two nodes in which the same is decided, as the opcode, its test and what its address names, and
 /// which have the same values in these parts, the event leaves the same value ([`crate::laws::flows`]).
-pub fn flow_of_own_event(node: &Node, part: NodePart) -> Flow
-    requires { IsNodePart part }
-    ensures value { flow_of result ≡ flow_of_own_event (record_of node.now) part }
-    ensures sources { HasValidSources (flow_of result) }
+pub fn flow_of_own_event(node: &Node, part: NodePart) -> ValueFlow
+    requires { IsNodePartInRange part }
+    ensures value { flow_of_stored_flow result ≡ flow_of_own_event (record_of_node node.now) part }
+    ensures sources { ComputesNothingFromOutsideWord (flow_of_stored_flow result) }
 {
-    let due = next_action_in(node);
-    flow_by_choice(due, choice_of(node, due), part)
+    let due = next_action_of_running_node(node);
+    flow_by_test_or_target(due, choice_of(node, due), part)
 }
 
 /// Where the value of a part comes from after the next event of its node, where this decides it: by the opcode and the choice
 /// alone, whatever the node's other values are.
-pub fn flow_by_choice(due: NextAction, choice: ActionChoice, part: NodePart) -> Flow
-    requires choice { IsValidTarget (choice_target choice) }
-    requires part { IsNodePart part }
-    ensures value { flow_of result ≡ flow_by_choice due choice part }
-    ensures sources { HasValidSources (flow_of result) }
+pub fn flow_by_test_or_target(
+    due: NextAction,
+    choice: DecidingTestOrTarget,
+    part: NodePart,
+) -> ValueFlow
+    requires choice { IsTargetInRange (deciding_target choice) }
+    requires part { IsNodePartInRange part }
+    ensures value { flow_of_stored_flow result ≡ flow_by_test_or_target due choice part }
+    ensures sources { ComputesNothingFromOutsideWord (flow_of_stored_flow result) }
 {
     before_due(due, choice, part).settle()
 }
 
 /// Where the value of a part comes from after the writer's half of a transfer.
-pub fn send_flow(part: NodePart) -> Flow
-    requires { IsNodePart part }
-    ensures value { flow_of result ≡ send_flow part }
-    ensures sources { HasValidSources (flow_of result) }
+pub fn flow_after_send(part: NodePart) -> ValueFlow
+    requires { IsNodePartInRange part }
+    ensures value { flow_of_stored_flow result ≡ flow_after_send part }
+    ensures sources { ComputesNothingFromOutsideWord (flow_of_stored_flow result) }
 {
     before_send(part).settle()
 }
 
 /// Where the value of a part comes from after the reader's half of a transfer, of a node that waits for this.
-pub fn take_flow(wait: Wait, part: NodePart) -> Flow
-    requires { IsNodePart part }
-    ensures value { flow_of result ≡ take_flow wait part }
-    ensures sources { HasValidSources (flow_of result) }
+pub fn flow_after_take(wait: Wait, part: NodePart) -> ValueFlow
+    requires { IsNodePartInRange part }
+    ensures value { flow_of_stored_flow result ≡ flow_after_take wait part }
+    ensures sources { ComputesNothingFromOutsideWord (flow_of_stored_flow result) }
 {
     before_take(wait, part).settle()
 }

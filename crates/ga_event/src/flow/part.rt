@@ -32,12 +32,12 @@ pub enum NodePart {
     Stop,
     /// The word from outside.
     #[default]
-    Outside,
+    OutsideWord,
 }
 
 impl NodePart {
     ghost use Rattle.std.specs.Prelude.{◌≡◌, ◌↔◌, IsTrue};
-    ghost use Rattle.ga_event.specs.Flow.{part_kind, part_index, is_equal_to};
+    ghost use Rattle.ga_event.specs.Flow.{kind_of_node_part, index_of_node_part, is_same_node_part};
 
     /// T, the top of the data stack.
     pub const T: NodePart = NodePart::Data(0);
@@ -48,7 +48,7 @@ impl NodePart {
 
     // A number for each kind of part.
     fn kind(self) -> u8
-        ensures { result ≡ part_kind self }
+        ensures { result ≡ kind_of_node_part self }
     {
         match self {
             NodePart::Data(_) => 0,
@@ -64,13 +64,13 @@ impl NodePart {
             NodePart::Slot => 10,
             NodePart::Wait => 11,
             NodePart::Stop => 12,
-            NodePart::Outside => 13,
+            NodePart::OutsideWord => 13,
         }
     }
 
     // The place or the cell of a part that has one.
     fn index(self) -> u8
-        ensures { result ≡ part_index self }
+        ensures { result ≡ index_of_node_part self }
     {
         match self {
             NodePart::Data(k) => k,
@@ -82,8 +82,8 @@ impl NodePart {
     }
 
     /// Whether the two are the same part.
-    pub fn is_equal_to(self, other: NodePart) -> bool
-        ensures value { result ≡ is_equal_to self other }
+    pub fn is_same_node_part(self, other: NodePart) -> bool
+        ensures value { result ≡ is_same_node_part self other }
         ensures same { IsTrue result ↔ (self ≡ other) }
     {
         self.kind() == other.kind() && self.index() == other.index()

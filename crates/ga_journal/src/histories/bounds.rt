@@ -2,7 +2,7 @@
 
 ghost use Rattle.std.specs.Prelude.{◌≡◌, ◌≤◌, List, length};
 ghost use Rattle.ga_journal.specs.Histories.{EntryRecord, history};
-ghost use Rattle.ga_journal.specs.inner.Histories.{lists_of, AllRise, bound_of, IsLatest, cut, IsCutWithin};
+ghost use Rattle.ga_journal.specs.inner.Histories.{entry_lists_of_histories, HaveRisingStamps, stamp_bound_of_history, IsNodeWithLatestStamp, cut, AreCutsWithinHistories};
 
 use super::Histories;
 use ga_grid::NodeId;
@@ -14,19 +14,19 @@ pub(crate) trait Bounds {
 
     /// The least number above a history's stamps.
     fn bound(&self, node: NodeId, top: u64) -> u64
-        requires rise { AllRise (seen self.now) top }
-        ensures value { result ≡ bound_of (history (seen self.now) node.number) }
+        requires rise { HaveRisingStamps (seen self.now) top }
+        ensures value { result ≡ stamp_bound_of_history (history (seen self.now) node.number) }
         ensures within { result ≤ top }
         ensures nodes { length (seen self.now) ≡ 144 };
 }
 
 impl Bounds for Histories {
-    ghost seen = { lists_of };
+    ghost seen = { entry_lists_of_histories };
 
     #[inline(always)]
     fn bound(&self, node: NodeId, top: u64) -> u64 {
         let history = self.at(node);
-        match history.last() {
+        match history.last_entry_stamp() {
             None => 0,
             Some(last) => last.0 + 1,
         }
@@ -39,11 +39,11 @@ pub(super) struct Firsts<'a> {
     pub histories: &'a Histories,
     pub lengths: &'a [u32; 144],
     ghost size: { length lengths.now ≡ 144 },
-    ghost fits: { IsCutWithin (lists_of histories.now) lengths.now },
+    ghost fits: { AreCutsWithinHistories (entry_lists_of_histories histories.now) lengths.now },
 }
 
 impl<'a> Bounds for Firsts<'a> {
-    ghost seen = { λ firsts. cut (lists_of firsts.histories.now) firsts.lengths.now };
+    ghost seen = { λ firsts. cut (entry_lists_of_histories firsts.histories.now) firsts.lengths.now };
 
     #[inline(always)]
     fn bound(&self, node: NodeId, top: u64) -> u64 {
@@ -52,7 +52,7 @@ impl<'a> Bounds for Firsts<'a> {
         if len == 0 {
             return 0;
         }
-        history.head(len - 1).stamp + 1
+        history.entry_without_old_values(len - 1).stamp + 1
     }
 }
 
@@ -60,8 +60,8 @@ impl<'a> Bounds for Firsts<'a> {
 #[tactic(auto, using(std::proofs::lemmas::Bool::cases_lt, crate::proofs::Cutting::bound_past))]
 #[inline(never)]
 fn scan<B: Bounds>(histories: &B, top: u64) -> NodeId
-    requires rise { AllRise (B.seen histories.now) top }
-    ensures { IsLatest (B.seen histories.now) result.number }
+    requires rise { HaveRisingStamps (B.seen histories.now) top }
+    ensures { IsNodeWithLatestStamp (B.seen histories.now) result.number }
 {
     let mut best = NodeId::new(0);
     let mut greatest = histories.bound(best, top);
@@ -81,8 +81,8 @@ fn scan<B: Bounds>(histories: &B, top: u64) -> NodeId
 #[tactic(auto, using(crate::proofs::Heads::bound_le))]
 #[inline(always)]
 pub(crate) fn newest<B: Bounds>(histories: &B, top: u64, hint: NodeId) -> NodeId
-    requires rise { AllRise (B.seen histories.now) top }
-    ensures { IsLatest (B.seen histories.now) result.number }
+    requires rise { HaveRisingStamps (B.seen histories.now) top }
+    ensures { IsNodeWithLatestStamp (B.seen histories.now) result.number }
 {
     if histories.bound(hint, top) == top {
         return hint;

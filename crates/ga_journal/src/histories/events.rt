@@ -1,12 +1,12 @@
 //! Events that are added to the histories, and taken out of them.
 
 ghost use Rattle.std.specs.Prelude.{◌≡◌};
-ghost use Rattle.ga_event.specs.Undo.{own_effect};
+ghost use Rattle.ga_event.specs.Undo.{effect_of_own_event};
 
 use super::Histories;
 use super::recall::passed;
-use crate::entry::{EntryAct, Pass, Role, Taken};
-use ga_event::{Effect, Event, Made, OwnOutcome, apply_pass};
+use crate::entry::{EntryRole, Pass, Role, Taken};
+use ga_event::{Effect, Event, MadeEvent, OwnEventKindWithLook, apply_pass};
 use ga_grid::{Chip, NodeId};
 use ga_node::Saved;
 use ga_ports::Side;
@@ -22,8 +22,8 @@ pub(crate) fn node_of(event: Event) -> NodeId {
 }
 
 /// What a node's own event did, with the old values.
-fn effect_of(deed: OwnOutcome, saved: Saved) -> Effect
-    ensures { result ≡ own_effect deed saved }
+fn effect_of(deed: OwnEventKindWithLook, saved: Saved) -> Effect
+    ensures { result ≡ effect_of_own_event deed saved }
 {
     if deed.look {
         Effect::Look(deed.kind, saved)
@@ -59,29 +59,36 @@ fn pass_with(
 
 impl Histories {
     ghost use Rattle.std.specs.Prelude.{◌≡◌, ◌≢◌, ◌+◌, ◌<◌, ◌^◌, List, ◌∷◌, [], ◌++◌, ℕ, length, slice_set, true, None};
-    ghost use Rattle.ga_node.specs.Record.{record_of};
-    ghost use Rattle.ga_node.specs.Table.{refusal};
-    ghost use Rattle.ga_grid.specs.Chip.{records_of, record_at, node_at};
-    ghost use Rattle.ga_event.specs.Apply.{refusal_of, is_transfer_ready};
-    ghost use Rattle.ga_event.specs.Undo.{IsEffectOfEvent, own_effect};
-    ghost use Rattle.ga_journal.specs.Histories.{past, has_entry_capacity, has_pass_capacity, HasEventCapacity, history, with_entry, histories_with_event};
-    ghost use Rattle.ga_journal.specs.inner.Histories.{past_of, lists_of, room_of, bound_of, IsTopmost, IsTakenOut};
-    ghost use Rattle.ga_journal.specs.Logs.{StampedEvent, AreHistoriesOfLog, AreConsistentHistories};
-    ghost use Rattle.ga_journal.specs.Popped.{IsNewestOfLog, HasUndoableNewest};
-    ghost use Rattle.ga_journal.specs.inner.Stored.{act_with};
-    ghost use Rattle.ga_journal.specs.inner.Ends.{CanGoBack, IsGoneBack, IsAdded};
+    ghost use Rattle.ga_node.specs.Record.{record_of_node};
+    ghost use Rattle.ga_node.specs.Table.{refusal_of_own_event};
+    ghost use Rattle.ga_grid.specs.Chip.{records_of_chip, node_record_at, node_at};
+    ghost use Rattle.ga_event.specs.Apply.{event_refusal, is_transfer_ready};
+    ghost use Rattle.ga_event.specs.Undo.{IsEffectOfEventKind, effect_of_own_event};
+    ghost use Rattle.ga_journal.specs.Histories.{new_entry_record, has_entry_capacity, has_pass_capacity, HasEventCapacity, history, histories_with_entry, histories_with_event};
+    ghost use Rattle.ga_journal.specs.inner.Histories.{entry_record_of_taken, entry_lists_of_histories, capacities_of_histories, stamp_bound_of_history, IsNodeOfNewestEntry, IsNewestEventUndoneInHistories};
+    ghost use Rattle.ga_journal.specs.Logs.{StampedEvent, AreHistoriesOfLog, AreHistoriesOfSomeLog};
+    ghost use Rattle.ga_journal.specs.Popped.{IsNewestLogEvent, HasUndoableNewestEvent};
+    ghost use Rattle.ga_journal.specs.inner.Stored.{entry_role_of_pass_end};
+    ghost use Rattle.ga_journal.specs.inner.Ends.{CanWriteBackLastEntry, IsLastEntryWrittenBack, IsEventMadeInHistories};
 
     /// Adds an own event to one history.
     #[inline(always)]
-    fn push_own(&mut self, node: NodeId, stamp: u64, deed: OwnOutcome, saved: Saved, before: NodeId)
-        requires room { has_entry_capacity (room_of self.old) node.number }
-        requires fits { length (history (lists_of self.old) node.number) + 1 < 2 ^ 32 }
-        ensures after { lists_of self.new
-            ≡ with_entry (lists_of self.old) node.number (past stamp (EntryAct.Own deed) saved) }
+    fn push_own_entry(
+        &mut self,
+        node: NodeId,
+        stamp: u64,
+        deed: OwnEventKindWithLook,
+        saved: Saved,
+        before: NodeId,
+    )
+        requires room { has_entry_capacity (capacities_of_histories self.old) node.number }
+        requires fits { length (history (entry_lists_of_histories self.old) node.number) + 1 < 2 ^ 32 }
+        ensures after { entry_lists_of_histories self.new
+            ≡ histories_with_entry (entry_lists_of_histories self.old) node.number (new_entry_record stamp (EntryRole.Own deed) saved) }
         ensures size { length self.new ≡ 144 }
     {
         let history = self.at_mut(node);
-        history.push_own(stamp, deed, saved, before);
+        history.push_own_entry(stamp, deed, saved, before);
     }
 
     /// Adds an end of a pass to one history.
@@ -94,26 +101,26 @@ impl Histories {
         saved: Saved,
         before: NodeId,
     )
-        requires room { has_pass_capacity (room_of self.old) node.number }
-        requires fits { length (history (lists_of self.old) node.number) < 2 ^ 32 }
-        ensures after { lists_of self.new
-            ≡ with_entry (lists_of self.old) node.number (past stamp (act_with role pass) saved) }
+        requires room { has_pass_capacity (capacities_of_histories self.old) node.number }
+        requires fits { length (history (entry_lists_of_histories self.old) node.number) < 2 ^ 32 }
+        ensures after { entry_lists_of_histories self.new
+            ≡ histories_with_entry (entry_lists_of_histories self.old) node.number (new_entry_record stamp (entry_role_of_pass_end role pass) saved) }
         ensures others { (n : ℕ) → n ≢ node.number →
-            has_pass_capacity (room_of self.old) n → has_pass_capacity (room_of self.new) n }
+            has_pass_capacity (capacities_of_histories self.old) n → has_pass_capacity (capacities_of_histories self.new) n }
         ensures size { length self.new ≡ 144 }
     {
         let history = self.at_mut(node);
-        history.push_pass(stamp, role, pass, saved, before);
+        history.push_pass_entry(stamp, role, pass, saved, before);
     }
 
     /// Takes the last entry of a history out.
     #[inline(always)]
     fn take_last(&mut self, node: NodeId) -> Taken
-        requires { 0 < bound_of (history (lists_of self.old) node.number) }
-        ensures last { history (lists_of self.old) node.number
-            ≡ history (lists_of self.new) node.number ++ past_of result ∷ [] }
-        ensures others { lists_of self.new
-            ≡ slice_set (lists_of self.old) node.number (history (lists_of self.new) node.number) }
+        requires { 0 < stamp_bound_of_history (history (entry_lists_of_histories self.old) node.number) }
+        ensures last { history (entry_lists_of_histories self.old) node.number
+            ≡ history (entry_lists_of_histories self.new) node.number ++ entry_record_of_taken result ∷ [] }
+        ensures others { entry_lists_of_histories self.new
+            ≡ slice_set (entry_lists_of_histories self.old) node.number (history (entry_lists_of_histories self.new) node.number) }
         ensures size { length self.new ≡ 144 }
     {
         let history = self.at_mut(node);
@@ -122,13 +129,13 @@ impl Histories {
 
     /// Writes the values of a node's last entry back, and takes the entry out.
     #[inline(always)]
-    pub(crate) fn undo_last_entry(&mut self, chip: &mut Chip, node: NodeId) -> EntryAct
-        requires some { 0 < bound_of (history (lists_of self.old) node.number) }
-        requires can { CanGoBack (history (lists_of self.old) node.number) chip.old node.number }
-        ensures back { IsGoneBack (history (lists_of self.old) node.number) chip.old node.number
-            (history (lists_of self.new) node.number) chip.new result }
-        ensures others { lists_of self.new
-            ≡ slice_set (lists_of self.old) node.number (history (lists_of self.new) node.number) }
+    pub(crate) fn undo_last_entry(&mut self, chip: &mut Chip, node: NodeId) -> EntryRole
+        requires some { 0 < stamp_bound_of_history (history (entry_lists_of_histories self.old) node.number) }
+        requires can { CanWriteBackLastEntry (history (entry_lists_of_histories self.old) node.number) chip.old node.number }
+        ensures back { IsLastEntryWrittenBack (history (entry_lists_of_histories self.old) node.number) chip.old node.number
+            (history (entry_lists_of_histories self.new) node.number) chip.new result }
+        ensures others { entry_lists_of_histories self.new
+            ≡ slice_set (entry_lists_of_histories self.old) node.number (history (entry_lists_of_histories self.new) node.number) }
         ensures size { length self.new ≡ 144 }
     {
         let history = self.at_mut(node);
@@ -137,20 +144,20 @@ impl Histories {
 
     /// Takes the newest event out, in which the node had a part.
     pub(crate) fn take_event(&mut self, node: NodeId) -> (Event, Effect)
-        requires topmost { IsTopmost (lists_of self.old) node.number }
-        requires whole { (made : ℕ) × AreConsistentHistories (lists_of self.old) made }
+        requires topmost { IsNodeOfNewestEntry (entry_lists_of_histories self.old) node.number }
+        requires whole { (made : ℕ) × AreHistoriesOfSomeLog (entry_lists_of_histories self.old) made }
         ensures size { length self.new ≡ 144 }
-        ensures newest { (log : List StampedEvent) (made : ℕ) → AreHistoriesOfLog log (lists_of self.old) made →
-            IsNewestOfLog log result.0 result.1 (lists_of self.new) }
+        ensures newest { (log : List StampedEvent) (made : ℕ) → AreHistoriesOfLog log (entry_lists_of_histories self.old) made →
+            IsNewestLogEvent log result.0 result.1 (entry_lists_of_histories self.new) }
     {
         let Taken { act, saved, .. } = self.take_last(node);
         match act {
-            EntryAct::Own(deed) => (Event::Own(node), effect_of(deed, saved)),
-            EntryAct::Sent { to, side, word, .. } => {
+            EntryRole::Own(deed) => (Event::Own(node), effect_of(deed, saved)),
+            EntryRole::SentWord { to, side, word, .. } => {
                 let other = self.take_last(to);
                 pass_with((node, to), side, word, (saved, other.saved))
             }
-            EntryAct::Took {
+            EntryRole::TookWord {
                 from,
                 side,
                 word,
@@ -163,7 +170,7 @@ impl Histories {
     }
 
     /// Adds the two entries of a pass.
-    fn push_pass(
+    fn push_pass_entry(
         &mut self,
         stamp: u64,
         ends: (NodeId, NodeId),
@@ -172,10 +179,10 @@ impl Histories {
         saved: (Saved, Saved),
         before: NodeId,
     )
-        requires room { HasEventCapacity (room_of self.old) (Event.Pass ends.0 ends.1 side) }
+        requires room { HasEventCapacity (capacities_of_histories self.old) (Event.Pass ends.0 ends.1 side) }
         requires two { ends.0.number ≢ ends.1.number }
-        requires fits { (n : ℕ) → length (history (lists_of self.old) n) < 2 ^ 32 }
-        ensures after { lists_of self.new ≡ histories_with_event (lists_of self.old) stamp
+        requires fits { (n : ℕ) → length (history (entry_lists_of_histories self.old) n) < 2 ^ 32 }
+        ensures after { entry_lists_of_histories self.new ≡ histories_with_event (entry_lists_of_histories self.old) stamp
             (Event.Pass ends.0 ends.1 side) (Effect.Pass word saved.0 saved.1) }
         ensures size { length self.new ≡ 144 }
     {
@@ -202,21 +209,21 @@ impl Histories {
     /// Adds the entries of an event.
     #[inline(always)]
     pub(crate) fn push_event(&mut self, stamp: u64, event: Event, effect: Effect, before: NodeId)
-        requires room { HasEventCapacity (room_of self.old) event }
-        requires of_kind { IsEffectOfEvent event effect }
-        requires fits { (n : ℕ) → length (history (lists_of self.old) n) + 1 < 2 ^ 32 }
-        ensures after { lists_of self.new ≡ histories_with_event (lists_of self.old) stamp event effect }
+        requires room { HasEventCapacity (capacities_of_histories self.old) event }
+        requires of_kind { IsEffectOfEventKind event effect }
+        requires fits { (n : ℕ) → length (history (entry_lists_of_histories self.old) n) + 1 < 2 ^ 32 }
+        ensures after { entry_lists_of_histories self.new ≡ histories_with_event (entry_lists_of_histories self.old) stamp event effect }
         ensures size { length self.new ≡ 144 }
     {
         match event {
             Event::Own(node) => match effect {
                 Effect::Own(kind, saved) => {
-                    let deed = OwnOutcome { kind, look: false };
-                    self.push_own(node, stamp, deed, saved, before);
+                    let deed = OwnEventKindWithLook { kind, look: false };
+                    self.push_own_entry(node, stamp, deed, saved, before);
                 }
                 Effect::Look(kind, saved) => {
-                    let deed = OwnOutcome { kind, look: true };
-                    self.push_own(node, stamp, deed, saved, before);
+                    let deed = OwnEventKindWithLook { kind, look: true };
+                    self.push_own_entry(node, stamp, deed, saved, before);
                 }
                 Effect::Pass { .. } => unreachable!(),
             },
@@ -231,25 +238,38 @@ impl Histories {
                     word,
                     writer: sent,
                     reader: taken,
-                } => self.push_pass(stamp, (writer, reader), side, word, (sent, taken), before),
+                } => self.push_pass_entry(
+                    stamp,
+                    (writer, reader),
+                    side,
+                    word,
+                    (sent, taken),
+                    before,
+                ),
             },
         }
     }
 
     /// Makes an own event on the chip, with its entry.
     #[inline(always)]
-    fn make_own_event(&mut self, chip: &mut Chip, node: NodeId, stamp: u64, before: NodeId) -> Made
-        requires ready { refusal (record_of (node_at chip.old node.number)) ≡ None }
-        requires room { has_entry_capacity (room_of self.old) node.number }
-        requires fits { length (history (lists_of self.old) node.number) + 1 < 2 ^ 32 }
-        ensures added { IsAdded (lists_of self.old) chip.old stamp (Event.Own node) result
-            (lists_of self.new) chip.new }
+    fn make_own_event(
+        &mut self,
+        chip: &mut Chip,
+        node: NodeId,
+        stamp: u64,
+        before: NodeId,
+    ) -> MadeEvent
+        requires ready { refusal_of_own_event (record_of_node (node_at chip.old node.number)) ≡ None }
+        requires room { has_entry_capacity (capacities_of_histories self.old) node.number }
+        requires fits { length (history (entry_lists_of_histories self.old) node.number) + 1 < 2 ^ 32 }
+        ensures added { IsEventMadeInHistories (entry_lists_of_histories self.old) chip.old stamp (Event.Own node) result
+            (entry_lists_of_histories self.new) chip.new }
         ensures size { length self.new ≡ 144 }
     {
         let step = self.count(node) + 1;
         let history = self.at_mut(node);
         let deed = history.make_own_event(chip, node, stamp, before);
-        Made::Own {
+        MadeEvent::Own {
             node,
             step,
             kind: deed.kind,
@@ -264,14 +284,14 @@ impl Histories {
         side: Side,
         stamp: u64,
         before: NodeId,
-    ) -> Made
+    ) -> MadeEvent
         requires open { is_transfer_ready ends.0.number ends.1.number side
-            (record_at (records_of chip.old) ends.0.number).wait
-            (record_at (records_of chip.old) ends.1.number).wait ≡ true }
-        requires room { HasEventCapacity (room_of self.old) (Event.Pass ends.0 ends.1 side) }
-        requires fits { (n : ℕ) → length (history (lists_of self.old) n) + 1 < 2 ^ 32 }
-        ensures added { IsAdded (lists_of self.old) chip.old stamp
-            (Event.Pass ends.0 ends.1 side) result (lists_of self.new) chip.new }
+            (node_record_at (records_of_chip chip.old) ends.0.number).wait
+            (node_record_at (records_of_chip chip.old) ends.1.number).wait ≡ true }
+        requires room { HasEventCapacity (capacities_of_histories self.old) (Event.Pass ends.0 ends.1 side) }
+        requires fits { (n : ℕ) → length (history (entry_lists_of_histories self.old) n) + 1 < 2 ^ 32 }
+        ensures added { IsEventMadeInHistories (entry_lists_of_histories self.old) chip.old stamp
+            (Event.Pass ends.0 ends.1 side) result (entry_lists_of_histories self.new) chip.new }
         ensures size { length self.new ≡ 144 }
     {
         let (writer, reader) = ends;
@@ -279,7 +299,7 @@ impl Histories {
         let mut sent = Saved::new();
         let mut taken = Saved::new();
         let word = apply_pass(chip, writer, reader, side, &mut sent, &mut taken);
-        self.push_pass(stamp, ends, side, word, (sent, taken), before);
+        self.push_pass_entry(stamp, ends, side, word, (sent, taken), before);
         let (_, made) = passed(ends, steps, side, word);
         made
     }
@@ -292,12 +312,12 @@ impl Histories {
         event: Event,
         stamp: u64,
         before: NodeId,
-    ) -> Made
-        requires can { refusal_of (records_of chip.old) event ≡ None }
-        requires room { HasEventCapacity (room_of self.old) event }
-        requires fits { (n : ℕ) → length (history (lists_of self.old) n) + 1 < 2 ^ 32 }
-        ensures added { IsAdded (lists_of self.old) chip.old stamp event result
-            (lists_of self.new) chip.new }
+    ) -> MadeEvent
+        requires can { event_refusal (records_of_chip chip.old) event ≡ None }
+        requires room { HasEventCapacity (capacities_of_histories self.old) event }
+        requires fits { (n : ℕ) → length (history (entry_lists_of_histories self.old) n) + 1 < 2 ^ 32 }
+        ensures added { IsEventMadeInHistories (entry_lists_of_histories self.old) chip.old stamp event result
+            (entry_lists_of_histories self.new) chip.new }
         ensures size { length self.new ≡ 144 }
     {
         match event {
@@ -312,14 +332,14 @@ impl Histories {
 
     /// Takes the newest event back on the chip, in which the node had a part, and its entries out.
     pub(crate) fn undo_event(&mut self, chip: &mut Chip, node: NodeId) -> Event
-        requires topmost { IsTopmost (lists_of self.old) node.number }
-        requires back { (made : ℕ) × HasUndoableNewest chip.old (lists_of self.old) made }
+        requires topmost { IsNodeOfNewestEntry (entry_lists_of_histories self.old) node.number }
+        requires back { (made : ℕ) × HasUndoableNewestEvent chip.old (entry_lists_of_histories self.old) made }
         ensures size { length self.new ≡ 144 }
-        ensures state_after_undo { IsTakenOut (lists_of self.old) chip.old result (lists_of self.new) chip.new }
+        ensures state_after_undo { IsNewestEventUndoneInHistories (entry_lists_of_histories self.old) chip.old result (entry_lists_of_histories self.new) chip.new }
     {
         match self.undo_last_entry(chip, node) {
-            EntryAct::Own(_) => Event::Own(node),
-            EntryAct::Sent { to, side, .. } => {
+            EntryRole::Own(_) => Event::Own(node),
+            EntryRole::SentWord { to, side, .. } => {
                 let _ = self.undo_last_entry(chip, to);
                 Event::Pass {
                     writer: node,
@@ -327,7 +347,7 @@ impl Histories {
                     side,
                 }
             }
-            EntryAct::Took { from, side, .. } => {
+            EntryRole::TookWord { from, side, .. } => {
                 let _ = self.undo_last_entry(chip, from);
                 Event::Pass {
                     writer: from,

@@ -4,11 +4,11 @@ ghost use Rattle.std.specs.Prelude.{◌≡◌, ◌++◌, ◌∷◌, [], false, O
 
 use super::Histories;
 use super::bounds::{Firsts, newest};
-use crate::entry::{EntryAct, Head};
+use crate::entry::{EntryRole, Head};
 use crate::fault::JournalFault;
-use crate::since::EventsSince;
-use ga_event::{Cause, Event, Made, OwnOutcome};
-use ga_grid::{CHIP_NODES, NodeId};
+use crate::since::EventsFromStep;
+use ga_event::{Event, EventWithLook, MadeEvent, OwnEventKindWithLook};
+use ga_grid::{CHIP_NODE_COUNT, NodeId};
 use ga_ports::Side;
 use ga_word::Word18;
 use std::alloc::Global;
@@ -18,12 +18,15 @@ const FIRST_ROOM: usize = 64;
 
 /// A node's own event, as a cause and as made.
 #[inline(always)]
-fn own(node: NodeId, step: u32, deed: OwnOutcome) -> (Cause, Made)
-    ensures { result ≡ (record { event = Event.Own node; look = deed.look }, Made.Own node step deed.kind) }
+fn own(node: NodeId, step: u32, deed: OwnEventKindWithLook) -> (EventWithLook, MadeEvent)
+    ensures { result ≡ (record { event = Event.Own node; look = deed.look }, MadeEvent.Own node step deed.kind) }
 {
-    let OwnOutcome { kind, look } = deed;
+    let OwnEventKindWithLook { kind, look } = deed;
     let event = Event::Own(node);
-    (Cause { event, look }, Made::Own { node, step, kind })
+    (
+        EventWithLook { event, look },
+        MadeEvent::Own { node, step, kind },
+    )
 }
 
 /// A pass, which looks at nothing, as a cause and as made.
@@ -33,10 +36,10 @@ pub(super) fn passed(
     steps: (u32, u32),
     side: Side,
     word: Word18,
-) -> (Cause, Made)
+) -> (EventWithLook, MadeEvent)
     ensures { result ≡ (
       record { event = Event.Pass ends.0 ends.1 side; look = false },
-      Made.Pass ends.0 steps.0 ends.1 steps.1 word,
+      MadeEvent.Pass ends.0 steps.0 ends.1 steps.1 word,
     ) }
 {
     let (writer, reader) = ends;
@@ -46,32 +49,32 @@ pub(super) fn passed(
         reader,
         side,
     };
-    let made = Made::Pass {
+    let made = MadeEvent::Pass {
         writer,
         writer_step,
         reader,
         reader_step,
         word,
     };
-    (Cause { event, look: false }, made)
+    (EventWithLook { event, look: false }, made)
 }
 
 impl Histories {
     ghost use Rattle.std.specs.Prelude.{◌≡◌, ◌-◌, ◌<◌, ◌≤◌, ◌^◌, ℕ, List, length, drop, slice_index, false, IfOk, IfErr, ◌+◌, [], ◌∷◌, ◌++◌, OnOk};
-    ghost use Rattle.ga_journal.specs.inner.Histories.{lists_of, bound_of, cut, older_causes, WalksBack, IsCutWithin, IsShorter, IsFirst, IsWalked, AreTold};
+    ghost use Rattle.ga_journal.specs.inner.Histories.{entry_lists_of_histories, stamp_bound_of_history, cut, events_with_looks_oldest_first, AreCutHistoriesOfLog, AreCutsWithinHistories, IsCutOneEntryShorter, IsNewestLogEventAsMade, AreCutHistoriesOfOlderEvents, AreMadeEventsAtPlaces};
     ghost use Rattle.ga_journal.specs.Histories.{history};
-    ghost use Rattle.ga_journal.specs.Logs.{StampedEvent, AreHistoriesOfLog, AreEventsSince};
+    ghost use Rattle.ga_journal.specs.Logs.{StampedEvent, AreHistoriesOfLog, AreEventsSinceStep};
     ghost use Rattle.std.specs.List.{All};
     ghost use Rattle.std.specs.List.Sorted.{IsStrictlyIncreasing};
 
     /// How many entries each node has.
     pub(crate) fn lengths_of(&self) -> [u32; 144]
-        requires fits { (n : ℕ) → length (history (lists_of self.now) n) < 2 ^ 32 }
-        ensures lengths { (n : ℕ) → n < 144 → slice_index result n ≡ length (history (lists_of self.now) n) }
+        requires fits { (n : ℕ) → length (history (entry_lists_of_histories self.now) n) < 2 ^ 32 }
+        ensures lengths { (n : ℕ) → n < 144 → slice_index result n ≡ length (history (entry_lists_of_histories self.now) n) }
         ensures all { length result ≡ 144 }
         ensures nodes { length self.now ≡ 144 }
     {
-        prove!(self.nodes.as_slice().len() == CHIP_NODES);
+        prove!(self.nodes.as_slice().len() == CHIP_NODE_COUNT);
         let mut lengths = [0u32; 144];
         for number in 0..144u8 {
             lengths[number as usize] = self.count(NodeId::new(number));
@@ -82,15 +85,15 @@ impl Histories {
     /// Returns the head of the last of a node's first entries, and makes them one fewer.
     #[inline(always)]
     fn back_at(&self, lengths: &mut [u32; 144], node: NodeId) -> Head
-        requires fits { IsCutWithin (lists_of self.now) lengths.old }
-        requires some { 0 < bound_of (history (cut (lists_of self.now) lengths.old) node.number) }
-        ensures { IsShorter (lists_of self.now) lengths.old node.number lengths.new result }
+        requires fits { AreCutsWithinHistories (entry_lists_of_histories self.now) lengths.old }
+        requires some { 0 < stamp_bound_of_history (history (cut (entry_lists_of_histories self.now) lengths.old) node.number) }
+        ensures { IsCutOneEntryShorter (entry_lists_of_histories self.now) lengths.old node.number lengths.new result }
     {
         let history = self.at(node);
         let at = node.index();
         let len = lengths[at] - 1;
         lengths[at] = len;
-        history.head(len as usize)
+        history.entry_without_old_values(len as usize)
     }
 
     /// Walks back over the newest event so far, and returns it.
@@ -99,14 +102,14 @@ impl Histories {
         lengths: &mut [u32; 144],
         top: &mut u64,
         hint: &mut NodeId,
-    ) -> (Cause, Made)
+    ) -> (EventWithLook, MadeEvent)
         requires { (log : List StampedEvent) × (0 < length log)
-            × WalksBack (lists_of self.now) lengths.old top.old log }
+            × AreCutHistoriesOfLog (entry_lists_of_histories self.now) lengths.old top.old log }
         ensures first { (log : List StampedEvent) →
-            WalksBack (lists_of self.now) lengths.old top.old log → IsFirst log result.0 result.1 }
+            AreCutHistoriesOfLog (entry_lists_of_histories self.now) lengths.old top.old log → IsNewestLogEventAsMade log result.0 result.1 }
         ensures left { (log : List StampedEvent) →
-            WalksBack (lists_of self.now) lengths.old top.old log →
-            IsWalked (lists_of self.now) lengths.new top.new log }
+            AreCutHistoriesOfLog (entry_lists_of_histories self.now) lengths.old top.old log →
+            AreCutHistoriesOfOlderEvents (entry_lists_of_histories self.now) lengths.new top.new log }
         ensures size { length lengths.new ≡ 144 }
     {
         let firsts = Firsts {
@@ -120,13 +123,13 @@ impl Histories {
         *hint = entry.before;
         let Head { act, .. } = entry;
         match act {
-            EntryAct::Own(deed) => own(node, step, deed),
-            EntryAct::Sent { to, side, word, .. } => {
+            EntryRole::Own(deed) => own(node, step, deed),
+            EntryRole::SentWord { to, side, word, .. } => {
                 let reader_step = lengths[to.index()];
                 let _other = self.back_at(lengths, to);
                 passed((node, to), (step, reader_step), side, word)
             }
-            EntryAct::Took {
+            EntryRole::TookWord {
                 from,
                 side,
                 word,
@@ -146,16 +149,16 @@ impl Histories {
         top: &mut u64,
         hint: &mut NodeId,
         count: u32,
-    ) -> (Cause, Made)
+    ) -> (EventWithLook, MadeEvent)
         requires some { 0 < count }
         requires walk { (log : List StampedEvent) × (count ≤ length log)
-            × WalksBack (lists_of self.now) lengths.old top.old log }
+            × AreCutHistoriesOfLog (entry_lists_of_histories self.now) lengths.old top.old log }
         ensures first { (log : List StampedEvent) → count ≤ length log →
-            WalksBack (lists_of self.now) lengths.old top.old log →
-            IsFirst (drop (count - 1) log) result.0 result.1 }
+            AreCutHistoriesOfLog (entry_lists_of_histories self.now) lengths.old top.old log →
+            IsNewestLogEventAsMade (drop (count - 1) log) result.0 result.1 }
         ensures left { (log : List StampedEvent) → count ≤ length log →
-            WalksBack (lists_of self.now) lengths.old top.old log →
-            WalksBack (lists_of self.now) lengths.new top.new (drop count log) }
+            AreCutHistoriesOfLog (entry_lists_of_histories self.now) lengths.old top.old log →
+            AreCutHistoriesOfLog (entry_lists_of_histories self.now) lengths.new top.new (drop count log) }
         ensures size { length lengths.new ≡ 144 }
     {
         for _ in 1..count {
@@ -165,14 +168,14 @@ impl Histories {
     }
 
     /// The event number `back_by` from the newest one on, counted from 1.
-    pub(crate) fn recall(&self, top: u64, hint: NodeId, back_by: u32) -> (Cause, Made)
-        requires fits { (n : ℕ) → length (history (lists_of self.now) n) < 2 ^ 32 }
+    pub(crate) fn recall(&self, top: u64, hint: NodeId, back_by: u32) -> (EventWithLook, MadeEvent)
+        requires fits { (n : ℕ) → length (history (entry_lists_of_histories self.now) n) < 2 ^ 32 }
         requires some { 0 < back_by }
         requires walk { (log : List StampedEvent) × (back_by ≤ length log)
-            × AreHistoriesOfLog log (lists_of self.now) top }
+            × AreHistoriesOfLog log (entry_lists_of_histories self.now) top }
         ensures { (log : List StampedEvent) → back_by ≤ length log →
-            AreHistoriesOfLog log (lists_of self.now) top →
-            IsFirst (drop (back_by - 1) log) result.0 result.1 }
+            AreHistoriesOfLog log (entry_lists_of_histories self.now) top →
+            IsNewestLogEventAsMade (drop (back_by - 1) log) result.0 result.1 }
     {
         let mut lengths = self.lengths_of();
         let mut top = top;
@@ -187,13 +190,13 @@ impl Histories {
         hint: NodeId,
         kept: u32,
         places: &[u32],
-    ) -> Result<Vec<Made>, JournalFault>
-        requires fits { (n : ℕ) → length (history (lists_of self.now) n) < 2 ^ 32 }
-        requires walk { (log : List StampedEvent) × (kept ≡ length log) × AreHistoriesOfLog log (lists_of self.now) top }
+    ) -> Result<Vec<MadeEvent>, JournalFault>
+        requires fits { (n : ℕ) → length (history (entry_lists_of_histories self.now) n) < 2 ^ 32 }
+        requires walk { (log : List StampedEvent) × (kept ≡ length log) × AreHistoriesOfLog log (entry_lists_of_histories self.now) top }
         requires rise { IsStrictlyIncreasing places.now }
         requires within { All (λ place. place < kept) places.now }
         ensures ok { IfOk result (λ list. (log : List StampedEvent) → kept ≡ length log →
-            AreHistoriesOfLog log (lists_of self.now) top → AreTold log places.now list.items) }
+            AreHistoriesOfLog log (entry_lists_of_histories self.now) top → AreMadeEventsAtPlaces log places.now list.items) }
         ensures err { IfErr result (λ fault. fault ≡ JournalFault.Memory) }
     {
         let mut list = Vec::new(self.alloc());
@@ -222,11 +225,11 @@ impl Histories {
         top: u64,
         hint: NodeId,
         kept: u32,
-    ) -> Result<Vec<Cause>, JournalFault>
-        requires fits { (n : ℕ) → length (history (lists_of self.now) n) < 2 ^ 32 }
-        requires walk { (log : List StampedEvent) × (kept ≡ length log) × AreHistoriesOfLog log (lists_of self.now) top }
+    ) -> Result<Vec<EventWithLook>, JournalFault>
+        requires fits { (n : ℕ) → length (history (entry_lists_of_histories self.now) n) < 2 ^ 32 }
+        requires walk { (log : List StampedEvent) × (kept ≡ length log) × AreHistoriesOfLog log (entry_lists_of_histories self.now) top }
         ensures ok { IfOk result (λ list. (log : List StampedEvent) → kept ≡ length log →
-            AreHistoriesOfLog log (lists_of self.now) top → list.items ≡ older_causes log) }
+            AreHistoriesOfLog log (entry_lists_of_histories self.now) top → list.items ≡ events_with_looks_oldest_first log) }
         ensures err { IfErr result (λ fault. fault ≡ JournalFault.Memory) }
     {
         let mut list = Vec::new(self.alloc());
@@ -252,14 +255,14 @@ impl Histories {
         kept: u32,
         from: (NodeId, u32),
         other: NodeId,
-    ) -> Result<EventsSince, JournalFault>
-        requires fits { (n : ℕ) → length (history (lists_of self.now) n) < 2 ^ 32 }
-        requires walk { (log : List StampedEvent) × (kept ≡ length log) × AreHistoriesOfLog log (lists_of self.now) top }
+    ) -> Result<EventsFromStep, JournalFault>
+        requires fits { (n : ℕ) → length (history (entry_lists_of_histories self.now) n) < 2 ^ 32 }
+        requires walk { (log : List StampedEvent) × (kept ≡ length log) × AreHistoriesOfLog log (entry_lists_of_histories self.now) top }
         requires counted { 0 < from.1 }
-        requires stands { from.1 ≤ length (history (lists_of self.now) from.0.number) }
+        requires stands { from.1 ≤ length (history (entry_lists_of_histories self.now) from.0.number) }
         ensures ok { IfOk result (λ since. (log : List StampedEvent) → kept ≡ length log →
-            AreHistoriesOfLog log (lists_of self.now) top →
-            AreEventsSince (older_causes log) from.0.number from.1 other.number since.causes.items since.before since.steps) }
+            AreHistoriesOfLog log (entry_lists_of_histories self.now) top →
+            AreEventsSinceStep (events_with_looks_oldest_first log) from.0.number from.1 other.number since.causes.items since.before since.steps) }
         ensures short { IfOk result (λ since. since.before + length since.causes.items ≡ kept) }
         ensures err { IfErr result (λ fault. fault ≡ JournalFault.Memory) }
     {
@@ -281,7 +284,7 @@ impl Histories {
         }
         causes.reverse();
         let steps = lengths[other.index()];
-        Ok(EventsSince {
+        Ok(EventsFromStep {
             causes,
             before,
             steps,

@@ -1,28 +1,30 @@
 //! What an event overwrote, by its entry in a node's history.
 
 ghost use Rattle.std.specs.Prelude.{◌≡◌, None};
-ghost use Rattle.ga_journal.specs.Walked.{old_value_of_place_or, old_value_among};
+ghost use Rattle.ga_journal.specs.Walked.{old_value_or_previous, old_value_of_place};
 
 use super::History;
-use ga_node::{Place, Saved};
+use ga_node::{NodePlace, Saved};
 
 /// The old value of a place, if this is the wanted place `what`.
-fn over(what: Place, place: Place, old: u32) -> Option<u32>
-    ensures { result ≡ old_value_of_place_or what place old None }
+fn over(what: NodePlace, place: NodePlace, old: u32) -> Option<u32>
+    ensures { result ≡ old_value_or_previous what place old None }
 {
     match (what, place) {
-        (Place::P, Place::P) => Some(old),
-        (Place::A, Place::A) => Some(old),
-        (Place::B, Place::B) => Some(old),
-        (Place::Wait, Place::Wait) => Some(old),
-        (Place::Ram(cell), Place::Ram(other)) => { if cell == other { Some(old) } else { None } }
+        (NodePlace::P, NodePlace::P) => Some(old),
+        (NodePlace::A, NodePlace::A) => Some(old),
+        (NodePlace::B, NodePlace::B) => Some(old),
+        (NodePlace::Wait, NodePlace::Wait) => Some(old),
+        (NodePlace::Ram(cell), NodePlace::Ram(other)) => {
+            if cell == other { Some(old) } else { None }
+        }
         _ => None,
     }
 }
 
 /// The old value of the wanted place among the old values of an entry.
-fn old_value_among(what: Place, saved: &Saved) -> Option<u32>
-    ensures { result ≡ old_value_among what saved.now }
+fn old_value_of_place(what: NodePlace, saved: &Saved) -> Option<u32>
+    ensures { result ≡ old_value_of_place what saved.now }
 {
     for k in 0..saved.len() {
         let (place, old) = saved.at(k);
@@ -39,13 +41,13 @@ impl History {
 
     /// What a place held before the event of the entry at a position; none where the event left it, or past the entries.
     #[tactic(auto, using(std::proofs::lemmas::Option::slice_get_past, crate::proofs::Storing::pasts_at))]
-    pub fn overwritten_value(&self, at: usize, what: Place) -> Option<u32>
+    pub fn overwritten_value(&self, at: usize, what: NodePlace) -> Option<u32>
         ensures { result ≡ overwritten_value self.now.items at what }
     {
         if at >= self.entries.len() {
             return None;
         }
         let entry = &self.entries[at];
-        old_value_among(what, &entry.saved)
+        old_value_of_place(what, &entry.saved)
     }
 }

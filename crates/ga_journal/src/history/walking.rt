@@ -1,7 +1,7 @@
 //! A node walked back along its history.
 
 use super::History;
-use ga_node::{Node, OverwrittenValues};
+use ga_node::{GatheredOldValues, Node};
 
 /// The number of entries from which on a walk back is faster if it gathers their values first.
 const FAR: usize = 512;
@@ -12,7 +12,7 @@ impl History {
 
     /// Writes the values of the entries from the position `to` on and below `from` back to a node, those of the last entry
     /// first.
-    pub fn walk_back(&self, node: &mut Node, from: usize, to: usize)
+    pub fn walk_node_back(&self, node: &mut Node, from: usize, to: usize)
         requires order { to ≤ from }
         requires within { from ≤ length self.now.items }
         requires can { CanRestoreEntries node.old (drop to (take from self.now.items)) }
@@ -46,7 +46,7 @@ impl History {
         requires can { CanRestoreEntries node.old (drop to (take from self.now.items)) }
         ensures { node.new ≡ node_before_entries node.old (drop to (take from self.now.items)) }
     {
-        let mut gathered = OverwrittenValues::new();
+        let mut gathered = GatheredOldValues::new();
         for entry in self.entries[to..from].iter().rev() {
             gathered.add(&entry.saved);
         }

@@ -1,7 +1,7 @@
 //! The events of the history, read one by one from the newest back.
 
 use super::Journal;
-use ga_event::Made;
+use ga_event::MadeEvent;
 use ga_grid::NodeId;
 use std::marker::Model;
 
@@ -19,26 +19,26 @@ pub struct BackwardEvents<'j> {
 }
 
 impl<'j> Model for BackwardEvents<'j> {
-    ghost use Rattle.ga_journal.specs.Histories.{BackwardModel, backward_model_at};
-    ghost use Rattle.ga_journal.specs.inner.Histories.{IsUntold};
+    ghost use Rattle.ga_journal.specs.Histories.{BackwardEventsModel, backward_events_model_at};
+    ghost use Rattle.ga_journal.specs.inner.Histories.{AreUnreadEntries};
 
-    ghost Value = { BackwardModel };
+    ghost Value = { BackwardEventsModel };
 
-    ghost view = { λ b. backward_model_at b.journal.now b.place };
+    ghost view = { λ b. backward_events_model_at b.journal.now b.place };
 
-    ghost invariant = { λ b. IsUntold b.journal.now b.lengths b.top b.place };
+    ghost invariant = { λ b. AreUnreadEntries b.journal.now b.lengths b.top b.place };
 }
 
 impl<'j> BackwardEvents<'j> {
     ghost use Rattle.std.specs.Prelude.{◌≡◌, ◌-◌, ◌≤◌, ◌↔◌, length, take, Some, IfSome, IsNone};
     ghost use Rattle.ga_event.specs.Told.{count_steps, made_event_at_place};
-    ghost use Rattle.ga_journal.specs.Events.{kept_outcomes, journal_events};
-    ghost use Rattle.ga_journal.specs.Histories.{backward_model_at};
+    ghost use Rattle.ga_journal.specs.Events.{kept_events_with_outcomes, journal_events};
+    ghost use Rattle.ga_journal.specs.Histories.{backward_events_model_at};
 
     /// The number of events that are not read yet: the place of the one that was read last.
     pub fn place(&self) -> u32
         ensures value { result ≡ self.now.place }
-        ensures within { result ≤ length (kept_outcomes self.now.book) }
+        ensures within { result ≤ length (kept_events_with_outcomes self.now.book) }
     {
         self.place
     }
@@ -51,10 +51,10 @@ impl<'j> BackwardEvents<'j> {
     }
 
     /// Reads the newest event that is not read yet, and returns it as made; none if all are read.
-    pub fn back(&mut self) -> Option<Made>
-        ensures some { IfSome result (λ made. made_event_at_place (kept_outcomes self.old.book) (self.old.place - 1) ≡ Some made) }
+    pub fn back(&mut self) -> Option<MadeEvent>
+        ensures some { IfSome result (λ made. made_event_at_place (kept_events_with_outcomes self.old.book) (self.old.place - 1) ≡ Some made) }
         ensures none { IsNone result ↔ (self.old.place ≡ 0) }
-        ensures left { self.new ≡ backward_model_at self.old.book (self.old.place - 1) }
+        ensures left { self.new ≡ backward_events_model_at self.old.book (self.old.place - 1) }
     {
         if self.place == 0 {
             return None;
@@ -70,14 +70,14 @@ impl<'j> BackwardEvents<'j> {
 
 impl Journal {
     ghost use Rattle.std.specs.Prelude.{◌≡◌, length};
-    ghost use Rattle.ga_journal.specs.Events.{kept_outcomes};
-    ghost use Rattle.ga_journal.specs.Logs.{AreConsistentHistories};
-    ghost use Rattle.ga_journal.specs.Histories.{backward_model_at};
+    ghost use Rattle.ga_journal.specs.Events.{kept_events_with_outcomes};
+    ghost use Rattle.ga_journal.specs.Logs.{AreHistoriesOfSomeLog};
+    ghost use Rattle.ga_journal.specs.Histories.{backward_events_model_at};
 
     /// A reader of the history, which has read no event yet.
-    pub(crate) fn backward(&self) -> BackwardEvents<'_>
-        requires { AreConsistentHistories self.now.histories self.now.made }
-        ensures { result ≡ backward_model_at self.now (length (kept_outcomes self.now)) }
+    pub(crate) fn backward_reader(&self) -> BackwardEvents<'_>
+        requires { AreHistoriesOfSomeLog self.now.histories self.now.made }
+        ensures { result ≡ backward_events_model_at self.now (length (kept_events_with_outcomes self.now)) }
     {
         BackwardEvents {
             journal: self,

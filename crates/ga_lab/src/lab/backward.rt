@@ -1,31 +1,31 @@
 //! The history of a lab, read one event at a time from the newest back.
 
 use super::Lab;
-use ga_event::Made;
+use ga_event::MadeEvent;
 use ga_grid::{Chip, NodeId};
 use std::marker::Model;
 
 /// A reader of a lab's history, one event at a time from the newest back. Nothing of the lab is undone. A contract sees the
 /// lab's machine, and how many events of the history are not read yet.
 #[derive(Drop)]
-pub struct Backward<'l> {
+pub struct BackwardReader<'l> {
     chip: &'l Chip,
     walk: ga_journal::BackwardEvents<'l>,
 }
 
-impl<'l> Model for Backward<'l> {
+impl<'l> Model for BackwardReader<'l> {
     ghost use Rattle.ga_lab.specs.Machine.{BackwardState};
     ghost use Rattle.ga_lab.specs.inner.LabInvariant.{IsLab};
-    ghost use Rattle.ga_lab.specs.inner.Walking.{telling_of};
+    ghost use Rattle.ga_lab.specs.inner.Walking.{backward_state_of_journal};
 
     ghost Value = { BackwardState };
 
-    ghost view = { λ b. telling_of b.chip.now b.walk };
+    ghost view = { λ b. backward_state_of_journal b.chip.now b.walk };
 
     ghost invariant = { λ b. IsLab b.chip.now b.walk.book };
 }
 
-impl<'l> Backward<'l> {
+impl<'l> BackwardReader<'l> {
     ghost use Rattle.std.specs.Prelude.{◌≡◌, ◌-◌, ◌≤◌, ◌↔◌, length, take, IsNone};
     ghost use Rattle.ga_event.specs.Told.{count_steps};
     ghost use Rattle.ga_lab.specs.Machine.{made_event_before};
@@ -47,7 +47,7 @@ impl<'l> Backward<'l> {
 
     /// Reads the event right before the place, which becomes the place, and returns it as made; none if no event is left. Takes
     /// no memory, and the same time whatever the history is.
-    pub fn back(&mut self) -> Option<Made>
+    pub fn back(&mut self) -> Option<MadeEvent>
         ensures told { result ≡ made_event_before self.old.machine self.old.place }
         ensures none { IsNone result ↔ (self.old.place ≡ 0) }
         ensures left { self.new ≡ record self.old { place = self.old.place - 1 } }
@@ -61,12 +61,12 @@ impl Lab {
     ghost use Rattle.ga_lab.specs.Machine.{backward_state};
 
     /// A reader of the history, one event at a time from the newest back. Takes no memory.
-    pub fn backward(&self) -> Backward<'_>
+    pub fn backward_reader(&self) -> BackwardReader<'_>
         ensures { result ≡ backward_state self.now (length self.now.kept) }
     {
-        Backward {
+        BackwardReader {
             chip: &self.chip,
-            walk: self.chronicle.backward(),
+            walk: self.chronicle.backward_reader(),
         }
     }
 }

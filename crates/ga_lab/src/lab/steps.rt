@@ -2,7 +2,7 @@
 
 use super::Lab;
 use crate::fault::LabFault;
-use ga_event::Made;
+use ga_event::MadeEvent;
 use ga_grid::NodeId;
 use ga_rollback::{RollbackFault, RollbackForecast, forecast_rollback};
 
@@ -10,12 +10,12 @@ impl Lab {
     ghost use Rattle.std.specs.Prelude.{◌≡◌, ◌↔◌, ◌+◌, ℕ, false, length, slice_index, Ok, Err, IfOk, IfErr};
     ghost use Rattle.std.specs.List.{slice_get};
     ghost use Rattle.ga_event.specs.Told.{count_steps};
-    ghost use Rattle.ga_lab.specs.Machine.{history_of, rewind_answer, state_after_rewind, has_step};
+    ghost use Rattle.ga_lab.specs.Machine.{history_of_node, rewind_answer, state_after_rewind, has_step};
 
     /// The number of steps of a node in the history.
     pub fn steps(&self, node: NodeId) -> u32
         ensures steps { result ≡ count_steps node.number self.now.kept }
-        ensures told { result ≡ length (history_of self.now node.number) }
+        ensures told { result ≡ length (history_of_node self.now node.number) }
     {
         self.chronicle.journal.count_steps(node)
     }
@@ -23,8 +23,8 @@ impl Lab {
     /// A node's step as made, the first of which is at place 0; none past its steps. Takes no memory, and the same time
     /// whatever the history is.
     #[tactic(auto, using(crate::proofs::Replays::told_tied))]
-    pub fn made_event_of_step(&self, node: NodeId, place: u32) -> Option<Made>
-        ensures { result ≡ slice_get (history_of self.now node.number) place }
+    pub fn made_event_of_step(&self, node: NodeId, place: u32) -> Option<MadeEvent>
+        ensures { result ≡ slice_get (history_of_node self.now node.number) place }
     {
         self.chronicle.made_event_of_step(node, place)
     }

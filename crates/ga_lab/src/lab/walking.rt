@@ -3,7 +3,7 @@
 use super::Lab;
 use ga_grid::{Chip, NodeId};
 use ga_journal::OrderedJournal;
-use ga_node::{Node, Place};
+use ga_node::{Node, NodePlace};
 use std::marker::Model;
 
 /// A copy of a node as it was right after one of its steps, which is walked back step by step. Nothing of the lab is undone. A
@@ -19,21 +19,21 @@ pub struct NodeWalk<'l> {
 
 impl<'l> Model for NodeWalk<'l> {
     ghost use Rattle.ga_lab.specs.Machine.{NodeAtStep};
-    ghost use Rattle.ga_lab.specs.inner.Walking.{standing_of, IsWalk};
+    ghost use Rattle.ga_lab.specs.inner.Walking.{walked_node_at_step, IsNodeWalk};
 
     ghost Value = { NodeAtStep };
 
-    ghost view = { λ w. standing_of w.chip.now w.chronicle.now.journal w.id w.step };
+    ghost view = { λ w. walked_node_at_step w.chip.now w.chronicle.now.journal w.id w.step };
 
-    ghost invariant = { λ w. IsWalk w.chip.now w.chronicle.now.journal w.id w.step w.node };
+    ghost invariant = { λ w. IsNodeWalk w.chip.now w.chronicle.now.journal w.id w.step w.node };
 }
 
 impl<'l> NodeWalk<'l> {
     ghost use Rattle.std.specs.Prelude.{◌≡◌, ◌<◌, ◌≤◌, ◌-◌, ℕ, take};
-    ghost use Rattle.ga_node.specs.Record.{record_of};
-    ghost use Rattle.ga_grid.specs.Chip.{record_at};
+    ghost use Rattle.ga_node.specs.Record.{record_of_node};
+    ghost use Rattle.ga_grid.specs.Chip.{node_record_at};
     ghost use Rattle.ga_event.specs.Told.{count_steps};
-    ghost use Rattle.ga_lab.specs.Machine.{chip_of, earlier_state};
+    ghost use Rattle.ga_lab.specs.Machine.{chip_of_machine, earlier_state};
 
     /// The number of steps that the node had made at this point of the walk.
     pub fn step(&self) -> u32
@@ -47,7 +47,7 @@ impl<'l> NodeWalk<'l> {
     /// is the node to which replaying the events before the place leads.
     pub fn node(&self) -> &Node
         ensures { (place : ℕ) → count_steps self.now.node.number (take place self.now.machine.kept) ≡ self.now.step
-            → record_of result.now ≡ record_at (chip_of (earlier_state self.now.machine place)) self.now.node.number }
+            → record_of_node result.now ≡ node_record_at (chip_of_machine (earlier_state self.now.machine place)) self.now.node.number }
     {
         &self.node
     }
@@ -79,28 +79,28 @@ impl<'l> NodeWalk<'l> {
         ensures { self.new ≡ record self.old { step = step } }
     {
         self.chronicle
-            .walk_back(self.id, &mut self.node, self.step, step);
+            .walk_node_back(self.id, &mut self.node, self.step, step);
         self.step = step;
     }
 }
 
 impl Lab {
     ghost use Rattle.std.specs.Prelude.{◌≡◌, ◌<◌, ◌≤◌, ◌+◌, ℕ, take, IfSome, IfNone};
-    ghost use Rattle.ga_grid.specs.Chip.{record_at};
+    ghost use Rattle.ga_grid.specs.Chip.{node_record_at};
     ghost use Rattle.ga_event.specs.Told.{count_steps};
     ghost use Rattle.ga_node.specs.State.{IsPlaceValueInRange};
-    ghost use Rattle.ga_lab.specs.Machine.{chip_of, earlier_state, node_at_step};
-    ghost use Rattle.ga_lab.specs.Holding.{HoldsValue};
+    ghost use Rattle.ga_lab.specs.Machine.{chip_of_machine, earlier_state, node_at_step};
+    ghost use Rattle.ga_lab.specs.Holding.{HoldsPlaceValue};
 
     /// A node as it was right after its step, or at load for step 0, to be walked back from there. Takes no memory, and time by how
     /// many steps the node made since.
-    pub fn walk(&self, node: NodeId, step: u32) -> NodeWalk<'_>
+    pub fn walk_node_from_step(&self, node: NodeId, step: u32) -> NodeWalk<'_>
         requires { step ≤ count_steps node.number self.now.kept }
         ensures { result ≡ node_at_step self.now node step }
     {
         let mut copy = self.chip.node(node).copy();
         let steps = self.chronicle.journal.count_steps(node);
-        self.chronicle.walk_back(node, &mut copy, steps, step);
+        self.chronicle.walk_node_back(node, &mut copy, steps, step);
         NodeWalk {
             chip: &self.chip,
             chronicle: &self.chronicle,
@@ -114,17 +114,17 @@ impl Lab {
     /// the number of the wait, or a cell of RAM. It is read from the step's entry, without a walk. None if the step didn't
     /// write there, past the node's steps, and for each other place. Takes no memory, and the same time whatever the history
     /// is.
-    pub fn overwritten_value(&self, node: NodeId, at: u32, what: Place) -> Option<u32>
+    pub fn overwritten_value(&self, node: NodeId, at: u32, what: NodePlace) -> Option<u32>
         ensures value { IfSome result (λ old. (place : ℕ) → count_steps node.number (take place self.now.kept) ≡ at
-            → HoldsValue (record_at (chip_of (earlier_state self.now place)) node.number) what old) }
+            → HoldsPlaceValue (node_record_at (chip_of_machine (earlier_state self.now place)) node.number) what old) }
         ensures in_range { IfSome result (λ old. IsPlaceValueInRange what old) }
         ensures within { IfSome result (λ old. at < count_steps node.number self.now.kept) }
         ensures left { IfNone result ((before behind value : ℕ) → count_steps node.number (take before self.now.kept) ≡ at
             → count_steps node.number (take behind self.now.kept) ≡ at + 1
-            → HoldsValue (record_at (chip_of (earlier_state self.now behind)) node.number) what value
-            → HoldsValue (record_at (chip_of (earlier_state self.now before)) node.number) what value) }
+            → HoldsPlaceValue (node_record_at (chip_of_machine (earlier_state self.now behind)) node.number) what value
+            → HoldsPlaceValue (node_record_at (chip_of_machine (earlier_state self.now before)) node.number) what value) }
     {
-        self.chip.node(node).has_sizes();
+        self.chip.node(node).has_valid_list_sizes();
         self.chronicle.overwritten_value(node, at, what)
     }
 }

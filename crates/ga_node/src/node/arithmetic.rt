@@ -7,14 +7,14 @@ use ga_word::Word18;
 
 impl Node {
     ghost use Rattle.std.specs.Prelude.{◌≡◌, []};
-    ghost use Rattle.ga_node.specs.Record.{record_of};
-    ghost use Rattle.ga_node.specs.inner.Saving.{IsDoneBy};
+    ghost use Rattle.ga_node.specs.Record.{record_of_node};
+    ghost use Rattle.ga_node.specs.inner.Saving.{IsAccessWithoutReadMade};
     ghost use Rattle.ga_node.specs.Table.{opcode_effect};
 
     /// `+*`, multiply step: S is added to T where A is odd, and T and A are shifted right as one.
     pub(super) fn run_multiply_step(&mut self, saved: &mut Saved)
         requires { saved.old ≡ [] }
-        ensures { IsDoneBy (opcode_effect Op.MultiplyStep (record_of self.old)) self.old self.new saved.new }
+        ensures { IsAccessWithoutReadMade (opcode_effect Op.MultiplyStep (record_of_node self.old)) self.old self.new saved.new }
     {
         let top = self.top();
         let second = self.second();
@@ -28,7 +28,7 @@ impl Node {
     /// `2*`: T is shifted left by one bit.
     pub(super) fn run_two_star(&mut self, saved: &mut Saved)
         requires { saved.old ≡ [] }
-        ensures { IsDoneBy (opcode_effect Op.TwoStar (record_of self.old)) self.old self.new saved.new }
+        ensures { IsAccessWithoutReadMade (opcode_effect Op.TwoStar (record_of_node self.old)) self.old self.new saved.new }
     {
         let top = self.top();
         self.set_top(saved, top.shl());
@@ -38,7 +38,7 @@ impl Node {
     /// `2/`: T is shifted right by one bit, and bit 17 stays.
     pub(super) fn run_two_slash(&mut self, saved: &mut Saved)
         requires { saved.old ≡ [] }
-        ensures { IsDoneBy (opcode_effect Op.TwoSlash (record_of self.old)) self.old self.new saved.new }
+        ensures { IsAccessWithoutReadMade (opcode_effect Op.TwoSlash (record_of_node self.old)) self.old self.new saved.new }
     {
         let top = self.top();
         self.set_top(saved, top.shr());
@@ -48,7 +48,7 @@ impl Node {
     /// `invert`: each bit of T is turned.
     pub(super) fn run_invert(&mut self, saved: &mut Saved)
         requires { saved.old ≡ [] }
-        ensures { IsDoneBy (opcode_effect Op.Invert (record_of self.old)) self.old self.new saved.new }
+        ensures { IsAccessWithoutReadMade (opcode_effect Op.Invert (record_of_node self.old)) self.old self.new saved.new }
     {
         let top = self.top();
         let word = top.get();
@@ -59,7 +59,7 @@ impl Node {
     /// `+`: T := T + S after a pop, with the carry where bit 9 of P is set.
     pub(super) fn run_plus(&mut self, saved: &mut Saved)
         requires { saved.old ≡ [] }
-        ensures { IsDoneBy (opcode_effect Op.Plus (record_of self.old)) self.old self.new saved.new }
+        ensures { IsAccessWithoutReadMade (opcode_effect Op.Plus (record_of_node self.old)) self.old self.new saved.new }
     {
         let top = self.top();
         let second = self.second();
@@ -79,7 +79,7 @@ impl Node {
     /// `and`: T := T and S, bit by bit, after a pop.
     pub(super) fn run_and(&mut self, saved: &mut Saved)
         requires { saved.old ≡ [] }
-        ensures { IsDoneBy (opcode_effect Op.And (record_of self.old)) self.old self.new saved.new }
+        ensures { IsAccessWithoutReadMade (opcode_effect Op.And (record_of_node self.old)) self.old self.new saved.new }
     {
         let top = self.top();
         let second = self.second();
@@ -92,7 +92,7 @@ impl Node {
     /// `or`: T := T exclusive-or S after a pop.
     pub(super) fn run_or(&mut self, saved: &mut Saved)
         requires { saved.old ≡ [] }
-        ensures { IsDoneBy (opcode_effect Op.Or (record_of self.old)) self.old self.new saved.new }
+        ensures { IsAccessWithoutReadMade (opcode_effect Op.Or (record_of_node self.old)) self.old self.new saved.new }
     {
         let top = self.top();
         let second = self.second();

@@ -7,19 +7,19 @@ use ga_word::Word18;
 
 impl Node {
     ghost use Rattle.std.specs.Prelude.{◌≡◌, ◌+◌, ◌<◌, ◌≤◌, [], length};
-    ghost use Rattle.ga_node.specs.Record.{record_of};
+    ghost use Rattle.ga_node.specs.Record.{record_of_node};
     ghost use Rattle.ga_node.specs.Changes.{node_after_changes};
-    ghost use Rattle.ga_node.specs.inner.Saving.{IsDoneBy, Saves, IsMade};
-    ghost use Rattle.ga_node.specs.Table.{opcode_effect, jump_changes, jump_changes_if};
+    ghost use Rattle.ga_node.specs.inner.Saving.{IsAccessWithoutReadMade, SavesOldValues, AreChangesMadeAndSaved};
+    ghost use Rattle.ga_node.specs.Table.{opcode_effect, jump_changes, conditional_jump_changes};
 
     /// P := the address that the slot names, and the rest of the word is passed over.
     #[tactic(auto, using(crate::proofs::Saving::saves_as))]
     #[inline(always)]
     fn jump(&mut self, saved: &mut Saved)
-        requires slot { (record_of self.old).slot < 3 }
+        requires slot { (record_of_node self.old).slot < 3 }
         requires room { length saved.old + 2 ≤ 6 }
-        ensures change { record_of self.new ≡ node_after_changes (jump_changes (record_of self.old)) (record_of self.old) }
-        ensures saves { Saves (jump_changes (record_of self.old)) self.old saved.old self.new saved.new }
+        ensures change { record_of_node self.new ≡ node_after_changes (jump_changes (record_of_node self.old)) (record_of_node self.old) }
+        ensures saves { SavesOldValues (jump_changes (record_of_node self.old)) self.old saved.old self.new saved.new }
     {
         let p = self.p();
         let i = self.i();
@@ -31,9 +31,9 @@ impl Node {
     /// A jump where a condition holds; else the rest of the word is passed over.
     #[inline(always)]
     fn jump_where(&mut self, saved: &mut Saved, is_so: bool)
-        requires slot { (record_of self.old).slot < 3 }
+        requires slot { (record_of_node self.old).slot < 3 }
         requires empty { saved.old ≡ [] }
-        ensures { IsMade (jump_changes_if is_so (record_of self.old)) self.old self.new saved.new }
+        ensures { AreChangesMadeAndSaved (conditional_jump_changes is_so (record_of_node self.old)) self.old self.new saved.new }
     {
         if is_so {
             self.jump(saved);
@@ -45,7 +45,7 @@ impl Node {
     /// `;`, return: P := the low ten bits of R, and R is popped.
     pub(super) fn run_return(&mut self, saved: &mut Saved)
         requires { saved.old ≡ [] }
-        ensures { IsDoneBy (opcode_effect Op.Return (record_of self.old)) self.old self.new saved.new }
+        ensures { IsAccessWithoutReadMade (opcode_effect Op.Return (record_of_node self.old)) self.old self.new saved.new }
     {
         let top = self.top_return();
         let p = top.get();
@@ -57,7 +57,7 @@ impl Node {
     /// `ex`, execute: P := the low ten bits of R, and R := the old P.
     pub(super) fn run_execute(&mut self, saved: &mut Saved)
         requires { saved.old ≡ [] }
-        ensures { IsDoneBy (opcode_effect Op.Execute (record_of self.old)) self.old self.new saved.new }
+        ensures { IsAccessWithoutReadMade (opcode_effect Op.Execute (record_of_node self.old)) self.old self.new saved.new }
     {
         let old = self.p();
         let top = self.top_return();
@@ -70,18 +70,18 @@ impl Node {
     /// `jump`: P := the address that the slot names.
     #[inline(always)]
     pub(super) fn run_jump(&mut self, saved: &mut Saved)
-        requires slot { (record_of self.old).slot < 3 }
+        requires slot { (record_of_node self.old).slot < 3 }
         requires empty { saved.old ≡ [] }
-        ensures { IsDoneBy (opcode_effect Op.Jump (record_of self.old)) self.old self.new saved.new }
+        ensures { IsAccessWithoutReadMade (opcode_effect Op.Jump (record_of_node self.old)) self.old self.new saved.new }
     {
         self.jump(saved);
     }
 
     /// `call`: P is pushed on the return stack, and then a jump.
     pub(super) fn run_call(&mut self, saved: &mut Saved)
-        requires slot { (record_of self.old).slot < 3 }
+        requires slot { (record_of_node self.old).slot < 3 }
         requires empty { saved.old ≡ [] }
-        ensures { IsDoneBy (opcode_effect Op.Call (record_of self.old)) self.old self.new saved.new }
+        ensures { IsAccessWithoutReadMade (opcode_effect Op.Call (record_of_node self.old)) self.old self.new saved.new }
     {
         let p = self.p();
         self.push_return(saved, Word18::from_low_bits(p));
@@ -91,7 +91,7 @@ impl Node {
     /// `unext`: while R is not 0, R counts down and the word starts again; at 0, R is popped.
     pub(super) fn run_unext(&mut self, saved: &mut Saved)
         requires { saved.old ≡ [] }
-        ensures { IsDoneBy (opcode_effect Op.Unext (record_of self.old)) self.old self.new saved.new }
+        ensures { IsAccessWithoutReadMade (opcode_effect Op.Unext (record_of_node self.old)) self.old self.new saved.new }
     {
         let top = self.top_return();
         let count = top.get();
@@ -106,9 +106,9 @@ impl Node {
 
     /// `next`: while R is not 0, R counts down and a jump follows; at 0, R is popped.
     pub(super) fn run_next(&mut self, saved: &mut Saved)
-        requires slot { (record_of self.old).slot < 3 }
+        requires slot { (record_of_node self.old).slot < 3 }
         requires empty { saved.old ≡ [] }
-        ensures { IsDoneBy (opcode_effect Op.Next (record_of self.old)) self.old self.new saved.new }
+        ensures { IsAccessWithoutReadMade (opcode_effect Op.Next (record_of_node self.old)) self.old self.new saved.new }
     {
         let top = self.top_return();
         let count = top.get();
@@ -123,9 +123,9 @@ impl Node {
 
     /// `if`: a jump where T is 0. T stays.
     pub(super) fn run_if(&mut self, saved: &mut Saved)
-        requires slot { (record_of self.old).slot < 3 }
+        requires slot { (record_of_node self.old).slot < 3 }
         requires empty { saved.old ≡ [] }
-        ensures { IsDoneBy (opcode_effect Op.If (record_of self.old)) self.old self.new saved.new }
+        ensures { IsAccessWithoutReadMade (opcode_effect Op.If (record_of_node self.old)) self.old self.new saved.new }
     {
         let top = self.top();
         let word = top.get();
@@ -134,9 +134,9 @@ impl Node {
 
     /// `-if`: a jump where bit 17 of T is 0. T stays.
     pub(super) fn run_minus_if(&mut self, saved: &mut Saved)
-        requires slot { (record_of self.old).slot < 3 }
+        requires slot { (record_of_node self.old).slot < 3 }
         requires empty { saved.old ≡ [] }
-        ensures { IsDoneBy (opcode_effect Op.MinusIf (record_of self.old)) self.old self.new saved.new }
+        ensures { IsAccessWithoutReadMade (opcode_effect Op.MinusIf (record_of_node self.old)) self.old self.new saved.new }
     {
         let top = self.top();
         let word = top.get();

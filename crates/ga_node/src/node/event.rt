@@ -1,7 +1,7 @@
 //! The events of a node's own: a fetch, an opcode, a wait or a stop.
 
 ghost use Rattle.std.specs.Prelude.{◌≡◌};
-ghost use Rattle.ga_node.specs.inner.Saving.{kind_of};
+ghost use Rattle.ga_node.specs.inner.Saving.{own_event_kind_after_access};
 
 use super::Node;
 use crate::due::NextAction;
@@ -15,7 +15,7 @@ use ga_slots::{Op, opcode};
 /// The kind of an event, which an access may have made another.
 #[inline(always)]
 fn named(kind: OwnEventKind, done: Result<(), OwnEventKind>) -> OwnEventKind
-    ensures { result ≡ kind_of kind done }
+    ensures { result ≡ own_event_kind_after_access kind done }
 {
     match done {
         Ok(()) => kind,
@@ -25,13 +25,13 @@ fn named(kind: OwnEventKind, done: Result<(), OwnEventKind>) -> OwnEventKind
 
 impl Node {
     ghost use Rattle.std.specs.Prelude.{◌≡◌, ◌<◌, ◌%◌, [], IfOk, IfErr, IfNone, OnOk, OnErr, None, Some, MatchResult};
-    ghost use Rattle.ga_slots.specs.Codes.{code_of};
+    ghost use Rattle.ga_slots.specs.Codes.{code_of_opcode};
     ghost use Rattle.ga_node.specs.State.{HasAtMostOneStatus};
-    ghost use Rattle.ga_node.specs.Record.{record_of};
+    ghost use Rattle.ga_node.specs.Record.{record_of_node};
     ghost use Rattle.ga_node.specs.Saving.{IsUndoLog};
-    ghost use Rattle.ga_node.specs.inner.Saving.{IsDone, IsEnded};
-    ghost use Rattle.ga_node.specs.Table.{own, own_event, effect, fetch_result, looks, is_look_action, opcode_reads_io, next_action_of, refusal};
-    ghost use Rattle.ga_node.specs.Ready.{IsRunning, CanExecute};
+    ghost use Rattle.ga_node.specs.inner.Saving.{IsAccessMadeUnreplaced, IsReplacementEventMade};
+    ghost use Rattle.ga_node.specs.Table.{own, own_event, changes_or_event_of_opcode, changes_or_event_of_fetch, reads_io_next, is_look_action, opcode_reads_io, next_action_of_node, refusal_of_own_event};
+    ghost use Rattle.ga_node.specs.Ready.{IsRunning, CanExecuteAction};
 
     /// Carries out an opcode, or answers the kind of the event that its access has become.
     #[inline(always)]
@@ -41,12 +41,12 @@ impl Node {
         saved: &mut Saved,
         op: Op,
     ) -> Result<(), OwnEventKind>
-        requires running { IsRunning (record_of self.old) }
-        requires slot { (record_of self.old).slot < 4 }
-        requires last { (record_of self.old).slot ≡ 3 → code_of op % 4 ≡ 0 }
+        requires running { IsRunning (record_of_node self.old) }
+        requires slot { (record_of_node self.old).slot < 4 }
+        requires last { (record_of_node self.old).slot ≡ 3 → code_of_opcode op % 4 ≡ 0 }
         requires empty { saved.old ≡ [] }
-        ensures done { OnOk result (IsDone (effect op seen (record_of self.old)) self.old self.new saved.new) }
-        ensures ended { IfErr result (λ kind. IsEnded (effect op seen (record_of self.old)) kind self.old self.new saved.new) }
+        ensures done { OnOk result (IsAccessMadeUnreplaced (changes_or_event_of_opcode op seen (record_of_node self.old)) self.old self.new saved.new) }
+        ensures ended { IfErr result (λ kind. IsReplacementEventMade (changes_or_event_of_opcode op seen (record_of_node self.old)) kind self.old self.new saved.new) }
     {
         match op {
             Op::Return => self.run_return(saved),
@@ -86,10 +86,10 @@ impl Node {
     }
 
     /// Why the node has no event of its own.
-    #[tactic(auto, unfolding(crate::specs::Record::record_of))]
-    pub fn not_ready(&self) -> Option<EventRefusal>
-        ensures reason { result ≡ refusal (record_of self.now) }
-        ensures running { IfNone result (IsRunning (record_of self.now)) }
+    #[tactic(auto, unfolding(crate::specs::Record::record_of_node))]
+    pub fn own_event_refusal(&self) -> Option<EventRefusal>
+        ensures reason { result ≡ refusal_of_own_event (record_of_node self.now) }
+        ensures running { IfNone result (IsRunning (record_of_node self.now)) }
     {
         match self.wait {
             Wait::Nothing => {
@@ -110,10 +110,10 @@ impl Node {
         seen: SeenNeighbours,
         saved: &mut Saved,
     ) -> Result<(), OwnEventKind>
-        requires running { IsRunning (record_of self.old) }
+        requires running { IsRunning (record_of_node self.old) }
         requires empty { saved.old ≡ [] }
-        ensures done { OnOk result (IsDone (fetch_result seen (record_of self.old)) self.old self.new saved.new) }
-        ensures ended { IfErr result (λ kind. IsEnded (fetch_result seen (record_of self.old)) kind self.old self.new saved.new) }
+        ensures done { OnOk result (IsAccessMadeUnreplaced (changes_or_event_of_fetch seen (record_of_node self.old)) self.old self.new saved.new) }
+        ensures ended { IfErr result (λ kind. IsReplacementEventMade (changes_or_event_of_fetch seen (record_of_node self.old)) kind self.old self.new saved.new) }
     {
         let p = self.p();
         let word = self.read(seen, saved, p, ReadKind::Instruction)?;
@@ -125,7 +125,7 @@ impl Node {
     #[inline(always)]
     #[tactic(auto, using(crate::proofs::Looks::reads_not))]
     fn opcode_reads_io(&self, op: Op) -> bool
-        ensures { result ≡ opcode_reads_io op (record_of self.now) }
+        ensures { result ≡ opcode_reads_io op (record_of_node self.now) }
     {
         // the four that read have the codes 08 to 0b: this test excludes most others, without a jump by opcode
         if op.code() / 4 != 2 {
@@ -141,12 +141,12 @@ impl Node {
         classify_address(address) == AddressTarget::Io
     }
 
-    /// What the node's next event of its own carries out, for [`Node::is_look_action`] and [`Node::execute_logged`].
+    /// What the node's next event of its own carries out, for [`Node::is_look_action`] and [`Node::execute_action_logged`].
     #[inline(always)]
-    pub fn due(&self) -> NextAction
-        requires { refusal (record_of self.now) ≡ None }
-        ensures due { result ≡ next_action_of (record_of self.now) }
-        ensures can { CanExecute result (record_of self.now) }
+    pub fn due_action(&self) -> NextAction
+        requires { refusal_of_own_event (record_of_node self.now) ≡ None }
+        ensures due { result ≡ next_action_of_node (record_of_node self.now) }
+        ensures can { CanExecuteAction result (record_of_node self.now) }
     {
         let slot = self.slot();
         if slot == 4 {
@@ -155,10 +155,10 @@ impl Node {
         NextAction::Run(opcode(self.i(), slot))
     }
 
-    /// Whether an event that carries this out is a look ([`Node::looks`]).
+    /// Whether an event that carries this out is a look ([`Node::reads_io_next`]).
     #[inline(always)]
     pub fn is_look_action(&self, due: NextAction) -> bool
-        ensures { result ≡ is_look_action due (record_of self.now) }
+        ensures { result ≡ is_look_action due (record_of_node self.now) }
     {
         match due {
             NextAction::Fetch => classify_address(self.p()) == AddressTarget::Io,
@@ -169,9 +169,9 @@ impl Node {
     /// Whether the opcode in the next slot reads `io`, or the fetch that is due reads from it (DB001, the `io` register). If
     /// the node runs, its next own event is then a look, which depends on what the neighbours wait for; a node that waits or is
     /// stopped has none now.
-    #[tactic(auto, unfolding(crate::specs::Table::looks))]
-    pub fn looks(&self) -> bool
-        ensures { result ≡ looks (record_of self.now) }
+    #[tactic(auto, unfolding(crate::specs::Table::reads_io_next))]
+    pub fn reads_io_next(&self) -> bool
+        ensures { result ≡ reads_io_next (record_of_node self.now) }
     {
         let slot = self.slot();
         if slot == 4 {
@@ -183,17 +183,17 @@ impl Node {
     /// Makes the node's next event, which carries this out, as [`Node::own`] does, and puts the values that it overwrote
     /// into a list that the caller keeps, which is empty before.
     #[inline(always)]
-    pub fn execute_logged(
+    pub fn execute_action_logged(
         &mut self,
         due: NextAction,
         seen: SeenNeighbours,
         saved: &mut Saved,
     ) -> OwnEventKind
-        requires due { due ≡ next_action_of (record_of self.old) }
-        requires can { CanExecute due (record_of self.old) }
+        requires due { due ≡ next_action_of_node (record_of_node self.old) }
+        requires can { CanExecuteAction due (record_of_node self.old) }
         requires empty { saved.old ≡ [] }
-        ensures event { (result, record_of self.new) ≡ own seen (record_of self.old) }
-        ensures saves { IsUndoLog (own_event seen (record_of self.old)).1 self.old self.new saved.new }
+        ensures event { (result, record_of_node self.new) ≡ own seen (record_of_node self.old) }
+        ensures saves { IsUndoLog (own_event seen (record_of_node self.old)).1 self.old self.new saved.new }
     {
         match due {
             NextAction::Fetch => {
@@ -209,24 +209,24 @@ impl Node {
 
     /// Makes the node's next event, with these neighbours: a fetch where one is due, else the opcode in the slot. An access to
     /// a port becomes a wait, and a bad one a stop, in place of the whole event (DB001, opcodes and ports). Only a look depends
-    /// on the neighbours ([`Node::looks`]).
+    /// on the neighbours ([`Node::reads_io_next`]).
     ///
     /// # Errors
     /// `Waiting` or `Stopped`, where the node waits or is stopped.
     #[tactic(auto, using(crate::proofs::Restoring::apart_from_ready))]
     pub fn own(&mut self, seen: SeenNeighbours) -> Result<(OwnEventKind, Saved), EventRefusal>
-        ensures ready { MatchResult result (λ _. refusal (record_of self.old) ≡ None) (λ reason. refusal (record_of self.old) ≡ Some reason) }
-        ensures event { IfOk result (λ event. (event.0, record_of self.new) ≡ own seen (record_of self.old)) }
-        ensures saves { IfOk result (λ event. IsUndoLog (own_event seen (record_of self.old)).1 self.old self.new event.1) }
+        ensures ready { MatchResult result (λ _. refusal_of_own_event (record_of_node self.old) ≡ None) (λ reason. refusal_of_own_event (record_of_node self.old) ≡ Some reason) }
+        ensures event { IfOk result (λ event. (event.0, record_of_node self.new) ≡ own seen (record_of_node self.old)) }
+        ensures saves { IfOk result (λ event. IsUndoLog (own_event seen (record_of_node self.old)).1 self.old self.new event.1) }
         ensures apart { OnOk result (HasAtMostOneStatus self.old) }
         ensures same { OnErr result (self.new ≡ self.old) }
     {
-        if let Some(reason) = self.not_ready() {
+        if let Some(reason) = self.own_event_refusal() {
             return Err(reason);
         }
         let mut saved = Saved::new();
-        let due = self.due();
-        let kind = self.execute_logged(due, seen, &mut saved);
+        let due = self.due_action();
+        let kind = self.execute_action_logged(due, seen, &mut saved);
         Ok((kind, saved))
     }
 }

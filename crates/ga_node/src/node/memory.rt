@@ -10,9 +10,9 @@ use ga_slots::Op;
 
 impl Node {
     ghost use Rattle.std.specs.Prelude.{◌≡◌, [], IfErr, OnOk};
-    ghost use Rattle.ga_node.specs.Record.{record_of};
-    ghost use Rattle.ga_node.specs.inner.Saving.{IsDone, IsDoneBy, IsEnded, IsEndedBy};
-    ghost use Rattle.ga_node.specs.Table.{opcode_effect, effect};
+    ghost use Rattle.ga_node.specs.Record.{record_of_node};
+    ghost use Rattle.ga_node.specs.inner.Saving.{IsAccessMadeUnreplaced, IsAccessWithoutReadMade, IsReplacementEventMade, IsWriteReplacedByEvent};
+    ghost use Rattle.ga_node.specs.Table.{opcode_effect, changes_or_event_of_opcode};
     ghost use Rattle.ga_node.specs.Ready.{IsRunning};
 
     /// `@p`, fetch p: the word at P is pushed, and P advances.
@@ -21,10 +21,10 @@ impl Node {
         seen: SeenNeighbours,
         saved: &mut Saved,
     ) -> Result<(), OwnEventKind>
-        requires running { IsRunning (record_of self.old) }
+        requires running { IsRunning (record_of_node self.old) }
         requires empty { saved.old ≡ [] }
-        ensures done { OnOk result (IsDone (effect Op.FetchP seen (record_of self.old)) self.old self.new saved.new) }
-        ensures ended { IfErr result (λ kind. IsEnded (effect Op.FetchP seen (record_of self.old)) kind self.old self.new saved.new) }
+        ensures done { OnOk result (IsAccessMadeUnreplaced (changes_or_event_of_opcode Op.FetchP seen (record_of_node self.old)) self.old self.new saved.new) }
+        ensures ended { IfErr result (λ kind. IsReplacementEventMade (changes_or_event_of_opcode Op.FetchP seen (record_of_node self.old)) kind self.old self.new saved.new) }
     {
         let p = self.p();
         let word = self.read(seen, saved, p, ReadKind::Stack)?;
@@ -40,10 +40,10 @@ impl Node {
         seen: SeenNeighbours,
         saved: &mut Saved,
     ) -> Result<(), OwnEventKind>
-        requires running { IsRunning (record_of self.old) }
+        requires running { IsRunning (record_of_node self.old) }
         requires empty { saved.old ≡ [] }
-        ensures done { OnOk result (IsDone (effect Op.FetchPlus seen (record_of self.old)) self.old self.new saved.new) }
-        ensures ended { IfErr result (λ kind. IsEnded (effect Op.FetchPlus seen (record_of self.old)) kind self.old self.new saved.new) }
+        ensures done { OnOk result (IsAccessMadeUnreplaced (changes_or_event_of_opcode Op.FetchPlus seen (record_of_node self.old)) self.old self.new saved.new) }
+        ensures ended { IfErr result (λ kind. IsReplacementEventMade (changes_or_event_of_opcode Op.FetchPlus seen (record_of_node self.old)) kind self.old self.new saved.new) }
     {
         let a = self.a();
         let word = self.read(seen, saved, a.get(), ReadKind::Stack)?;
@@ -59,10 +59,10 @@ impl Node {
         seen: SeenNeighbours,
         saved: &mut Saved,
     ) -> Result<(), OwnEventKind>
-        requires running { IsRunning (record_of self.old) }
+        requires running { IsRunning (record_of_node self.old) }
         requires empty { saved.old ≡ [] }
-        ensures done { OnOk result (IsDone (effect Op.FetchB seen (record_of self.old)) self.old self.new saved.new) }
-        ensures ended { IfErr result (λ kind. IsEnded (effect Op.FetchB seen (record_of self.old)) kind self.old self.new saved.new) }
+        ensures done { OnOk result (IsAccessMadeUnreplaced (changes_or_event_of_opcode Op.FetchB seen (record_of_node self.old)) self.old self.new saved.new) }
+        ensures ended { IfErr result (λ kind. IsReplacementEventMade (changes_or_event_of_opcode Op.FetchB seen (record_of_node self.old)) kind self.old self.new saved.new) }
     {
         let b = self.b();
         let word = self.read(seen, saved, b, ReadKind::Stack)?;
@@ -77,10 +77,10 @@ impl Node {
         seen: SeenNeighbours,
         saved: &mut Saved,
     ) -> Result<(), OwnEventKind>
-        requires running { IsRunning (record_of self.old) }
+        requires running { IsRunning (record_of_node self.old) }
         requires empty { saved.old ≡ [] }
-        ensures done { OnOk result (IsDone (effect Op.Fetch seen (record_of self.old)) self.old self.new saved.new) }
-        ensures ended { IfErr result (λ kind. IsEnded (effect Op.Fetch seen (record_of self.old)) kind self.old self.new saved.new) }
+        ensures done { OnOk result (IsAccessMadeUnreplaced (changes_or_event_of_opcode Op.Fetch seen (record_of_node self.old)) self.old self.new saved.new) }
+        ensures ended { IfErr result (λ kind. IsReplacementEventMade (changes_or_event_of_opcode Op.Fetch seen (record_of_node self.old)) kind self.old self.new saved.new) }
     {
         let a = self.a();
         let word = self.read(seen, saved, a.get(), ReadKind::Stack)?;
@@ -91,10 +91,10 @@ impl Node {
 
     /// `!p`, store p: stores T at the address in P and pops it, and P advances.
     pub(super) fn run_store_p(&mut self, saved: &mut Saved) -> Result<(), OwnEventKind>
-        requires running { IsRunning (record_of self.old) }
+        requires running { IsRunning (record_of_node self.old) }
         requires empty { saved.old ≡ [] }
-        ensures done { OnOk result (IsDoneBy (opcode_effect Op.StoreP (record_of self.old)) self.old self.new saved.new) }
-        ensures ended { IfErr result (λ kind. IsEndedBy (opcode_effect Op.StoreP (record_of self.old)) kind self.old self.new saved.new) }
+        ensures done { OnOk result (IsAccessWithoutReadMade (opcode_effect Op.StoreP (record_of_node self.old)) self.old self.new saved.new) }
+        ensures ended { IfErr result (λ kind. IsWriteReplacedByEvent (opcode_effect Op.StoreP (record_of_node self.old)) kind self.old self.new saved.new) }
     {
         let p = self.p();
         self.write(saved, p)?;
@@ -106,10 +106,10 @@ impl Node {
 
     /// `!+`, store plus: stores T at the address in A and pops it, and A advances.
     pub(super) fn run_store_plus(&mut self, saved: &mut Saved) -> Result<(), OwnEventKind>
-        requires running { IsRunning (record_of self.old) }
+        requires running { IsRunning (record_of_node self.old) }
         requires empty { saved.old ≡ [] }
-        ensures done { OnOk result (IsDoneBy (opcode_effect Op.StorePlus (record_of self.old)) self.old self.new saved.new) }
-        ensures ended { IfErr result (λ kind. IsEndedBy (opcode_effect Op.StorePlus (record_of self.old)) kind self.old self.new saved.new) }
+        ensures done { OnOk result (IsAccessWithoutReadMade (opcode_effect Op.StorePlus (record_of_node self.old)) self.old self.new saved.new) }
+        ensures ended { IfErr result (λ kind. IsWriteReplacedByEvent (opcode_effect Op.StorePlus (record_of_node self.old)) kind self.old self.new saved.new) }
     {
         let a = self.a();
         self.write(saved, a.get())?;
@@ -121,10 +121,10 @@ impl Node {
 
     /// `!b`, store b: stores T at the address in B and pops it.
     pub(super) fn run_store_b(&mut self, saved: &mut Saved) -> Result<(), OwnEventKind>
-        requires running { IsRunning (record_of self.old) }
+        requires running { IsRunning (record_of_node self.old) }
         requires empty { saved.old ≡ [] }
-        ensures done { OnOk result (IsDoneBy (opcode_effect Op.StoreB (record_of self.old)) self.old self.new saved.new) }
-        ensures ended { IfErr result (λ kind. IsEndedBy (opcode_effect Op.StoreB (record_of self.old)) kind self.old self.new saved.new) }
+        ensures done { OnOk result (IsAccessWithoutReadMade (opcode_effect Op.StoreB (record_of_node self.old)) self.old self.new saved.new) }
+        ensures ended { IfErr result (λ kind. IsWriteReplacedByEvent (opcode_effect Op.StoreB (record_of_node self.old)) kind self.old self.new saved.new) }
     {
         let b = self.b();
         self.write(saved, b)?;
@@ -135,10 +135,10 @@ impl Node {
 
     /// `!`, store: stores T at the address in A and pops it.
     pub(super) fn run_store(&mut self, saved: &mut Saved) -> Result<(), OwnEventKind>
-        requires running { IsRunning (record_of self.old) }
+        requires running { IsRunning (record_of_node self.old) }
         requires empty { saved.old ≡ [] }
-        ensures done { OnOk result (IsDoneBy (opcode_effect Op.Store (record_of self.old)) self.old self.new saved.new) }
-        ensures ended { IfErr result (λ kind. IsEndedBy (opcode_effect Op.Store (record_of self.old)) kind self.old self.new saved.new) }
+        ensures done { OnOk result (IsAccessWithoutReadMade (opcode_effect Op.Store (record_of_node self.old)) self.old self.new saved.new) }
+        ensures ended { IfErr result (λ kind. IsWriteReplacedByEvent (opcode_effect Op.Store (record_of_node self.old)) kind self.old self.new saved.new) }
     {
         let a = self.a();
         self.write(saved, a.get())?;

@@ -2,28 +2,28 @@
 
 use super::Node;
 use crate::aside::SuspendedStatus;
-use crate::place::Place;
+use crate::place::NodePlace;
 use crate::saved::Saved;
 use crate::wait::Wait;
 
 impl Node {
     ghost use Rattle.std.specs.Prelude.{◌≡◌, ◌≤◌, take};
-    ghost use Rattle.ga_node.specs.State.{with_value, with_restored_values, with_suspended_status, IsPlaceValueInRange, AreValuesInRange, HasAtMostOneStatus, HasClearedStatus};
+    ghost use Rattle.ga_node.specs.State.{node_with_value, node_with_restored_values, node_with_resumed_status, IsPlaceValueInRange, ArePlaceValuesValid, HasAtMostOneStatus, HasClearedStatus};
 
     /// Writes one old value back, of a node whose wait and stop are set aside.
     #[tactic(auto, using(crate::proofs::Restoring::stays_apart))]
     #[inline(always)]
-    pub(crate) fn put_back(&mut self, aside: &mut SuspendedStatus, place: Place, old: u32)
+    pub(crate) fn put_back(&mut self, aside: &mut SuspendedStatus, place: NodePlace, old: u32)
         requires fit { IsPlaceValueInRange place old }
         requires cleared { HasClearedStatus self.old }
         requires in_range { aside.old.stop ≤ 3 }
-        ensures back { with_suspended_status self.new aside.new ≡ with_value (with_suspended_status self.old aside.old) place old }
+        ensures back { node_with_resumed_status self.new aside.new ≡ node_with_value (node_with_resumed_status self.old aside.old) place old }
         ensures cleared { HasClearedStatus self.new }
         ensures in_range { aside.new.stop ≤ 3 }
     {
         match place {
-            Place::Wait => aside.wait = Wait::from_code(old),
-            Place::Stop => aside.stop = old as u8,
+            NodePlace::Wait => aside.wait = Wait::from_code(old),
+            NodePlace::Stop => aside.stop = old as u8,
             _ => self.set(place, old),
         }
     }
@@ -31,7 +31,7 @@ impl Node {
     /// Sets the wait and the stop aside, for old values of many events to be written back by `write_back`.
     #[inline(always)]
     pub fn suspend_status(&mut self) -> SuspendedStatus
-        ensures same { with_suspended_status self.new result ≡ self.old }
+        ensures same { node_with_resumed_status self.new result ≡ self.old }
         ensures apart { HasAtMostOneStatus self.old }
         ensures cleared { HasClearedStatus self.new }
         ensures in_range { result.stop ≤ 3 }
@@ -49,10 +49,10 @@ impl Node {
     /// are set aside.
     #[inline(always)]
     fn write_six_back(&mut self, aside: &mut SuspendedStatus, saved: &Saved)
-        requires fit { AreValuesInRange saved.now }
+        requires fit { ArePlaceValuesValid saved.now }
         requires cleared { HasClearedStatus self.old }
         requires in_range { aside.old.stop ≤ 3 }
-        ensures back { with_suspended_status self.new aside.new ≡ with_restored_values (with_suspended_status self.old aside.old) (take 6 saved.now) }
+        ensures back { node_with_resumed_status self.new aside.new ≡ node_with_restored_values (node_with_resumed_status self.old aside.old) (take 6 saved.now) }
         ensures cleared { HasClearedStatus self.new }
         ensures in_range { aside.new.stop ≤ 3 }
     {
@@ -66,10 +66,10 @@ impl Node {
     /// Writes the values that an event overwrote back, the last of them first, where the wait and the stop are set aside.
     #[inline(always)]
     pub fn write_back(&mut self, aside: &mut SuspendedStatus, saved: &Saved)
-        requires fit { AreValuesInRange saved.now }
+        requires fit { ArePlaceValuesValid saved.now }
         requires cleared { HasClearedStatus self.old }
         requires in_range { aside.old.stop ≤ 3 }
-        ensures back { with_suspended_status self.new aside.new ≡ with_restored_values (with_suspended_status self.old aside.old) saved.now }
+        ensures back { node_with_resumed_status self.new aside.new ≡ node_with_restored_values (node_with_resumed_status self.old aside.old) saved.now }
         ensures cleared { HasClearedStatus self.new }
         ensures in_range { aside.new.stop ≤ 3 }
     {
@@ -84,8 +84,8 @@ impl Node {
     #[inline(always)]
     pub fn resume_status(&mut self, aside: SuspendedStatus)
         requires in_range { aside.stop ≤ 3 }
-        requires apart { HasAtMostOneStatus (with_suspended_status self.old aside) }
-        ensures { self.new ≡ with_suspended_status self.old aside }
+        requires apart { HasAtMostOneStatus (node_with_resumed_status self.old aside) }
+        ensures { self.new ≡ node_with_resumed_status self.old aside }
     {
         self.wait = aside.wait;
         self.stop = aside.stop;
@@ -94,9 +94,9 @@ impl Node {
     /// Writes the seven values that an event overwrote back, the last of them first.
     #[inline(never)]
     fn restore_seven(&mut self, saved: &Saved)
-        requires fit { AreValuesInRange saved.now }
-        requires apart { HasAtMostOneStatus (with_restored_values self.old saved.now) }
-        ensures { self.new ≡ with_restored_values self.old saved.now }
+        requires fit { ArePlaceValuesValid saved.now }
+        requires apart { HasAtMostOneStatus (node_with_restored_values self.old saved.now) }
+        ensures { self.new ≡ node_with_restored_values self.old saved.now }
     {
         let mut aside = self.suspend_status();
         self.write_back(&mut aside, saved);
@@ -105,9 +105,9 @@ impl Node {
 
     /// Writes the values that an event overwrote back, the last of them first.
     pub fn restore(&mut self, saved: &Saved)
-        requires fit { AreValuesInRange saved.now }
-        requires apart { HasAtMostOneStatus (with_restored_values self.old saved.now) }
-        ensures { self.new ≡ with_restored_values self.old saved.now }
+        requires fit { ArePlaceValuesValid saved.now }
+        requires apart { HasAtMostOneStatus (node_with_restored_values self.old saved.now) }
+        ensures { self.new ≡ node_with_restored_values self.old saved.now }
     {
         if saved.is_full() {
             return self.restore_seven(saved);

@@ -6,14 +6,14 @@ use ga_slots::Op;
 
 impl Node {
     ghost use Rattle.std.specs.Prelude.{◌≡◌, []};
-    ghost use Rattle.ga_node.specs.Record.{record_of};
-    ghost use Rattle.ga_node.specs.inner.Saving.{IsDoneBy};
+    ghost use Rattle.ga_node.specs.Record.{record_of_node};
+    ghost use Rattle.ga_node.specs.inner.Saving.{IsAccessWithoutReadMade};
     ghost use Rattle.ga_node.specs.Table.{opcode_effect};
 
     /// `drop`: the data stack is popped.
     pub(super) fn run_drop(&mut self, saved: &mut Saved)
         requires { saved.old ≡ [] }
-        ensures { IsDoneBy (opcode_effect Op.Drop (record_of self.old)) self.old self.new saved.new }
+        ensures { IsAccessWithoutReadMade (opcode_effect Op.Drop (record_of_node self.old)) self.old self.new saved.new }
     {
         self.pop_data(saved);
         self.go_on(saved);
@@ -22,7 +22,7 @@ impl Node {
     /// `dup`: T is pushed on the data stack.
     pub(super) fn run_dup(&mut self, saved: &mut Saved)
         requires { saved.old ≡ [] }
-        ensures { IsDoneBy (opcode_effect Op.Dup (record_of self.old)) self.old self.new saved.new }
+        ensures { IsAccessWithoutReadMade (opcode_effect Op.Dup (record_of_node self.old)) self.old self.new saved.new }
     {
         let top = self.top();
         self.push_data(saved, top);
@@ -32,7 +32,7 @@ impl Node {
     /// `pop`: R is pushed on the data stack, and popped.
     pub(super) fn run_pop(&mut self, saved: &mut Saved)
         requires { saved.old ≡ [] }
-        ensures { IsDoneBy (opcode_effect Op.Pop (record_of self.old)) self.old self.new saved.new }
+        ensures { IsAccessWithoutReadMade (opcode_effect Op.Pop (record_of_node self.old)) self.old self.new saved.new }
     {
         let top = self.top_return();
         self.push_data(saved, top);
@@ -43,7 +43,7 @@ impl Node {
     /// `over`: S is pushed on the data stack.
     pub(super) fn run_over(&mut self, saved: &mut Saved)
         requires { saved.old ≡ [] }
-        ensures { IsDoneBy (opcode_effect Op.Over (record_of self.old)) self.old self.new saved.new }
+        ensures { IsAccessWithoutReadMade (opcode_effect Op.Over (record_of_node self.old)) self.old self.new saved.new }
     {
         let second = self.second();
         self.push_data(saved, second);
@@ -53,7 +53,7 @@ impl Node {
     /// `a`: A is pushed on the data stack.
     pub(super) fn run_a(&mut self, saved: &mut Saved)
         requires { saved.old ≡ [] }
-        ensures { IsDoneBy (opcode_effect Op.A (record_of self.old)) self.old self.new saved.new }
+        ensures { IsAccessWithoutReadMade (opcode_effect Op.A (record_of_node self.old)) self.old self.new saved.new }
     {
         let a = self.a();
         self.push_data(saved, a);
@@ -63,7 +63,7 @@ impl Node {
     /// `push`: T is pushed on the return stack, and popped.
     pub(super) fn run_push(&mut self, saved: &mut Saved)
         requires { saved.old ≡ [] }
-        ensures { IsDoneBy (opcode_effect Op.Push (record_of self.old)) self.old self.new saved.new }
+        ensures { IsAccessWithoutReadMade (opcode_effect Op.Push (record_of_node self.old)) self.old self.new saved.new }
     {
         let top = self.top();
         self.push_return(saved, top);
@@ -74,7 +74,7 @@ impl Node {
     /// `b!`, b store: B := the low nine bits of T, which is popped.
     pub(super) fn run_b_store(&mut self, saved: &mut Saved)
         requires { saved.old ≡ [] }
-        ensures { IsDoneBy (opcode_effect Op.BStore (record_of self.old)) self.old self.new saved.new }
+        ensures { IsAccessWithoutReadMade (opcode_effect Op.BStore (record_of_node self.old)) self.old self.new saved.new }
     {
         let top = self.top();
         let word = top.get();
@@ -86,7 +86,7 @@ impl Node {
     /// `a!`, a store: A := T, which is popped.
     pub(super) fn run_a_store(&mut self, saved: &mut Saved)
         requires { saved.old ≡ [] }
-        ensures { IsDoneBy (opcode_effect Op.AStore (record_of self.old)) self.old self.new saved.new }
+        ensures { IsAccessWithoutReadMade (opcode_effect Op.AStore (record_of_node self.old)) self.old self.new saved.new }
     {
         let top = self.top();
         self.set_a(saved, top);

@@ -7,13 +7,13 @@ use Rattle.ga_parser.specs.Constants.{ConstantAndLabelNames, AwaitedWord, Consta
 use Rattle.ga_parser.specs.Constants.AwaitedWord.{Any, Constant, Name}
 use Rattle.ga_parser.specs.inner.Placing.{placed, placed_all}
 
-abbrev pub awaited_of : AwaitedIn → AwaitedWord
-awaited_of AnyIn = Any
-awaited_of (ConstantIn number) = Constant (placed number)
-awaited_of (NameIn number constant) = Name (placed number) (placed constant)
+abbrev pub awaited_word_view : AwaitedIn → AwaitedWord
+awaited_word_view AnyIn = Any
+awaited_word_view (ConstantIn number) = Constant (placed number)
+awaited_word_view (NameIn number constant) = Name (placed number) (placed constant)
 
-abbrev pub known_of : Resolving → ConstantAndLabelNames
-known_of resolving = record { names = resolving.names; numbers = map (λ number. number.now) resolving.numbers.items }
+abbrev pub known_names_of_parser : Resolving → ConstantAndLabelNames
+known_names_of_parser resolving = record { names = resolving.names; numbers = map (λ number. number.now) resolving.numbers.items }
 
-abbrev pub resolving_of : Resolving → ConstantResolution
-resolving_of resolving = record { words = placed_all resolving.words.items; known = known_of resolving; awaited = awaited_of resolving.awaited }
+abbrev pub resolution_of_parser : Resolving → ConstantResolution
+resolution_of_parser resolving = record { words = placed_all resolving.words.items; known = known_names_of_parser resolving; awaited = awaited_word_view resolving.awaited }

@@ -1,17 +1,17 @@
 //! What some actions reach, and whether something happens between two.
 
 ghost use Rattle.std.specs.Prelude.{◌≡◌, ◌<◌, ◌&&◌, ◌||◌, ℕ, true, false, length};
-ghost use Rattle.ga_grid.specs.Grid.{neighbour_of};
-ghost use Rattle.ga_causal.specs.Dependence.{is_marked};
-ghost use Rattle.ga_causal.specs.inner.{any_of};
-ghost use Rattle.ga_event.specs.Apply.{equals_some};
+ghost use Rattle.ga_grid.specs.Grid.{neighbour_number};
+ghost use Rattle.ga_causal.specs.Dependence.{is_node_flagged};
+ghost use Rattle.ga_causal.specs.inner.{is_optional_node_marked};
+ghost use Rattle.ga_event.specs.Apply.{equals_optional_number};
 ghost use Rattle.ga_races.specs.HappensBefore.{HappensBefore};
-ghost use Rattle.ga_races.specs.Acts.{has_side_to, action_of_access, actions_of_accesses};
-ghost use Rattle.ga_races.specs.inner.{shows_marked, has_touched, has_shown, has_looked, is_shown_to, is_met};
+ghost use Rattle.ga_races.specs.Acts.{has_side_towards_node, trace_action_of_event_access, trace_actions_of_accesses};
+ghost use Rattle.ga_races.specs.inner.{has_marked_neighbour_on_sides, action_touches_node, action_changes_view, has_looked, shows_change_to_marked_node, is_dependent_on_reached_actions};
 
 use crate::act::{EventAccess, SideSet};
 use ga_causal::NodeSet;
-use ga_event::{Cause, Event};
+use ga_event::{Event, EventWithLook};
 use ga_grid::{NodeId, neighbour};
 use ga_ports::Side;
 
@@ -25,7 +25,7 @@ struct Reached {
 
 // Whether the neighbour on a side, if it is one of some, is marked.
 fn is_marked_over(marks: &NodeSet, node: NodeId, side: Side, has: bool) -> bool
-    ensures { result ≡ (has && any_of (is_marked marks.now) (neighbour_of node.number side)) }
+    ensures { result ≡ (has && is_optional_node_marked (is_node_flagged marks.now) (neighbour_number node.number side)) }
 {
     match neighbour(node, side) {
         Some(other) => has && marks.has(other),
@@ -35,7 +35,7 @@ fn is_marked_over(marks: &NodeSet, node: NodeId, side: Side, has: bool) -> bool
 
 // Whether a neighbour on one of the sides is marked.
 fn is_marked_beside(marks: &NodeSet, node: NodeId, sides: &SideSet) -> bool
-    ensures { result ≡ shows_marked (is_marked marks.now) sides.now node.number }
+    ensures { result ≡ has_marked_neighbour_on_sides (is_node_flagged marks.now) sides.now node.number }
 {
     is_marked_over(marks, node, Side::Right, sides.right)
         || is_marked_over(marks, node, Side::Down, sides.down)
@@ -45,10 +45,10 @@ fn is_marked_beside(marks: &NodeSet, node: NodeId, sides: &SideSet) -> bool
 
 // Marks the neighbour on a side, if it is one of some.
 fn mark_over(marks: &mut NodeSet, node: NodeId, side: Side, has: bool)
-    ensures { (n : ℕ) → is_marked marks.new n ≡ (is_marked marks.old n || (has && equals_some (neighbour_of node.number side) n)) }
+    ensures { (n : ℕ) → is_node_flagged marks.new n ≡ (is_node_flagged marks.old n || (has && equals_optional_number (neighbour_number node.number side) n)) }
 {
     match neighbour(node, side) {
-        Some(other) if has => marks.add_touched(&Cause {
+        Some(other) if has => marks.add_touched_nodes(&EventWithLook {
             event: Event::Own(other),
             look: false,
         }),
@@ -58,7 +58,7 @@ fn mark_over(marks: &mut NodeSet, node: NodeId, side: Side, has: bool)
 
 // Marks the neighbours on the sides.
 fn mark_beside(marks: &mut NodeSet, node: NodeId, sides: &SideSet)
-    ensures { (n : ℕ) → is_marked marks.new n ≡ (is_marked marks.old n || has_side_to sides.now node.number n) }
+    ensures { (n : ℕ) → is_node_flagged marks.new n ≡ (is_node_flagged marks.old n || has_side_towards_node sides.now node.number n) }
 {
     mark_over(marks, node, Side::Right, sides.right);
     mark_over(marks, node, Side::Down, sides.down);
@@ -68,7 +68,7 @@ fn mark_beside(marks: &mut NodeSet, node: NodeId, sides: &SideSet)
 
 // Marks the nodes to which an action changes what is shown.
 fn mark_shown(marks: &mut NodeSet, act: &EventAccess)
-    ensures { (n : ℕ) → is_marked marks.new n ≡ (is_marked marks.old n || has_shown (action_of_access act.now) n) }
+    ensures { (n : ℕ) → is_node_flagged marks.new n ≡ (is_node_flagged marks.old n || action_changes_view (trace_action_of_event_access act.now) n) }
 {
     match act.cause.event {
         Event::Own(node) => mark_beside(marks, node, &act.first),
@@ -81,19 +81,19 @@ fn mark_shown(marks: &mut NodeSet, act: &EventAccess)
 
 // Marks the nodes of a look.
 pub(super) fn mark_look(marks: &mut NodeSet, act: &EventAccess)
-    ensures { (n : ℕ) → is_marked marks.new n ≡ (is_marked marks.old n || has_looked (action_of_access act.now) n) }
+    ensures { (n : ℕ) → is_node_flagged marks.new n ≡ (is_node_flagged marks.old n || has_looked (trace_action_of_event_access act.now) n) }
 {
     if act.cause.look {
-        marks.add_touched(&act.cause);
+        marks.add_touched_nodes(&act.cause);
     }
 }
 
 impl Reached {
     // The nodes that one action touches, those to which it changes what is shown, and those that look in it.
     fn by(act: &EventAccess) -> Self
-        ensures touched { (n : ℕ) → is_marked result.touched n ≡ has_touched (action_of_access act.now) n }
-        ensures shown { (n : ℕ) → is_marked result.shown n ≡ has_shown (action_of_access act.now) n }
-        ensures looked { (n : ℕ) → is_marked result.looked n ≡ has_looked (action_of_access act.now) n }
+        ensures touched { (n : ℕ) → is_node_flagged result.touched n ≡ action_touches_node (trace_action_of_event_access act.now) n }
+        ensures shown { (n : ℕ) → is_node_flagged result.shown n ≡ action_changes_view (trace_action_of_event_access act.now) n }
+        ensures looked { (n : ℕ) → is_node_flagged result.looked n ≡ has_looked (trace_action_of_event_access act.now) n }
     {
         let mut reached = Reached {
             touched: NodeSet::none(),
@@ -106,21 +106,21 @@ impl Reached {
 
     // Adds the nodes that an action touches, those to which it changes what is shown, and those that look in it.
     fn add(&mut self, act: &EventAccess)
-        ensures touched { (n : ℕ) → is_marked self.new.touched n ≡ (is_marked self.old.touched n || has_touched (action_of_access act.now) n) }
-        ensures shown { (n : ℕ) → is_marked self.new.shown n ≡ (is_marked self.old.shown n || has_shown (action_of_access act.now) n) }
-        ensures looked { (n : ℕ) → is_marked self.new.looked n ≡ (is_marked self.old.looked n || has_looked (action_of_access act.now) n) }
+        ensures touched { (n : ℕ) → is_node_flagged self.new.touched n ≡ (is_node_flagged self.old.touched n || action_touches_node (trace_action_of_event_access act.now) n) }
+        ensures shown { (n : ℕ) → is_node_flagged self.new.shown n ≡ (is_node_flagged self.old.shown n || action_changes_view (trace_action_of_event_access act.now) n) }
+        ensures looked { (n : ℕ) → is_node_flagged self.new.looked n ≡ (is_node_flagged self.old.looked n || has_looked (trace_action_of_event_access act.now) n) }
     {
-        self.touched.add_touched(&act.cause);
+        self.touched.add_touched_nodes(&act.cause);
         mark_shown(&mut self.shown, act);
         mark_look(&mut self.looked, act);
     }
 
     // Returns whether an action is dependent with one of the actions that were added. If so it is added too.
     fn take(&mut self, act: &EventAccess) -> bool
-        ensures answer { result ≡ is_met (is_marked self.old.touched) (is_marked self.old.shown) (is_marked self.old.looked) act.now }
-        ensures touched { (n : ℕ) → is_marked self.new.touched n ≡ (is_marked self.old.touched n || (result && has_touched (action_of_access act.now) n)) }
-        ensures shown { (n : ℕ) → is_marked self.new.shown n ≡ (is_marked self.old.shown n || (result && has_shown (action_of_access act.now) n)) }
-        ensures looked { (n : ℕ) → is_marked self.new.looked n ≡ (is_marked self.old.looked n || (result && has_looked (action_of_access act.now) n)) }
+        ensures answer { result ≡ is_dependent_on_reached_actions (is_node_flagged self.old.touched) (is_node_flagged self.old.shown) (is_node_flagged self.old.looked) act.now }
+        ensures touched { (n : ℕ) → is_node_flagged self.new.touched n ≡ (is_node_flagged self.old.touched n || (result && action_touches_node (trace_action_of_event_access act.now) n)) }
+        ensures shown { (n : ℕ) → is_node_flagged self.new.shown n ≡ (is_node_flagged self.old.shown n || (result && action_changes_view (trace_action_of_event_access act.now) n)) }
+        ensures looked { (n : ℕ) → is_node_flagged self.new.looked n ≡ (is_node_flagged self.old.looked n || (result && has_looked (trace_action_of_event_access act.now) n)) }
     {
         if !self.has_common_node(act) {
             return false;
@@ -131,7 +131,7 @@ impl Reached {
 
     // Whether an action is dependent with one of the actions that were added.
     fn has_common_node(&self, act: &EventAccess) -> bool
-        ensures { result ≡ is_met (is_marked self.now.touched) (is_marked self.now.shown) (is_marked self.now.looked) act.now }
+        ensures { result ≡ is_dependent_on_reached_actions (is_node_flagged self.now.touched) (is_node_flagged self.now.shown) (is_node_flagged self.now.looked) act.now }
     {
         self.touched.is_touched_by(&act.cause)
             || (act.cause.look && self.shown.is_touched_by(&act.cause))
@@ -140,7 +140,7 @@ impl Reached {
 
     // Whether an action changes what is shown to a node that looked in one of the actions that were added.
     fn is_shown_by(&self, act: &EventAccess) -> bool
-        ensures { result ≡ is_shown_to (is_marked self.now.looked) act.now.cause.event act.now.first act.now.second }
+        ensures { result ≡ shows_change_to_marked_node (is_node_flagged self.now.looked) act.now.cause.event act.now.first act.now.second }
     {
         match act.cause.event {
             Event::Own(node) => is_marked_beside(&self.looked, node, &act.first),
@@ -164,16 +164,16 @@ pub(super) fn is_between(acts: &[EventAccess], first: usize, later: usize) -> bo
     requires order { first < later }
     requires within { later < length acts.now }
     ensures some { result ≡ true →
-        (m : ℕ) × HappensBefore (actions_of_accesses acts.now) first m × HappensBefore (actions_of_accesses acts.now) m later }
+        (m : ℕ) × HappensBefore (trace_actions_of_accesses acts.now) first m × HappensBefore (trace_actions_of_accesses acts.now) m later }
     ensures none { result ≡ false → (m : ℕ) →
-        HappensBefore (actions_of_accesses acts.now) first m → HappensBefore (actions_of_accesses acts.now) m later → ⊥ }
+        HappensBefore (trace_actions_of_accesses acts.now) first m → HappensBefore (trace_actions_of_accesses acts.now) m later → ⊥ }
 {
     let end = acts[later];
     let mut reached = Reached::by(&acts[first]);
     'between: for place in first + 1..later {
         let act = acts[place];
         let met = reached.take(&act);
-        if both(met, act.is_dependent(&end)) {
+        if both(met, act.keeps_order_with_event(&end)) {
             return true;
         }
     }

@@ -1,36 +1,36 @@
 //! Listing the words of a link one after another, and counting them. A word is in the steps of both ends of the link.
 
 ghost use Rattle.std.specs.Prelude.{◌≡◌, ◌≤◌, option_to_list};
-ghost use Rattle.ga_lab.specs.Machine.{history_of};
-ghost use Rattle.ga_scheduler.specs.Words.{link_end_node, link_transfers, numbered_transfers, transfer_of_event, is_transfer_over_link, transfer_count_of_event, link_transfer_count};
+ghost use Rattle.ga_lab.specs.Machine.{history_of_node};
+ghost use Rattle.ga_scheduler.specs.Words.{scanned_link_end, link_transfers, numbered_transfers, transfer_of_event, is_transfer_over_link, transfers_over_link_by_event, link_transfer_count};
 
 use super::{Transfer, TransferIter};
 use ga_grid::NodeId;
-use ga_lab::{Lab, Made};
+use ga_lab::{Lab, MadeEvent};
 
 // Whether the reader has fewer steps than the writer. The steps of either tell the words.
 #[tactic(auto, using(crate::proofs::WordCounts::by_either))]
 fn is_shorter(lab: &Lab, writer: NodeId, reader: NodeId) -> bool
-    ensures { numbered_transfers writer.number reader.number 0 (history_of lab.now (link_end_node result writer reader))
+    ensures { numbered_transfers writer.number reader.number 0 (history_of_node lab.now (scanned_link_end result writer reader))
         ≡ link_transfers lab.now writer.number reader.number }
 {
     lab.steps(reader) < lab.steps(writer)
 }
 
 // The end of a link whose steps are read: the reader or the writer.
-fn link_end_node(by_reader: bool, writer: NodeId, reader: NodeId) -> NodeId
-    ensures { result.number ≡ link_end_node by_reader writer reader }
+fn scanned_link_end(by_reader: bool, writer: NodeId, reader: NodeId) -> NodeId
+    ensures { result.number ≡ scanned_link_end by_reader writer reader }
 {
     if by_reader { reader } else { writer }
 }
 
 // Whether the event carried a word over the link.
-pub(crate) fn is_transfer_over_link(made: &Made, writer: NodeId, reader: NodeId) -> bool
+pub(crate) fn is_transfer_over_link(made: &MadeEvent, writer: NodeId, reader: NodeId) -> bool
     ensures { result ≡ is_transfer_over_link writer.number reader.number made.now }
 {
     match made {
-        Made::Own { .. } => false,
-        Made::Pass {
+        MadeEvent::Own { .. } => false,
+        MadeEvent::Pass {
             writer: from,
             reader: to,
             ..
@@ -39,8 +39,8 @@ pub(crate) fn is_transfer_over_link(made: &Made, writer: NodeId, reader: NodeId)
 }
 
 // 1 where the event carried a word over the link, else 0.
-pub(crate) fn transfer_count_of_event(made: &Made, writer: NodeId, reader: NodeId) -> u32
-    ensures one { result ≡ transfer_count_of_event writer.number reader.number made.now }
+pub(crate) fn transfers_over_link_by_event(made: &MadeEvent, writer: NodeId, reader: NodeId) -> u32
+    ensures one { result ≡ transfers_over_link_by_event writer.number reader.number made.now }
     ensures most { result ≤ 1 }
 {
     if is_transfer_over_link(made, writer, reader) {
@@ -54,11 +54,11 @@ pub(crate) fn transfer_count_of_event(made: &Made, writer: NodeId, reader: NodeI
 pub fn count_transfers(lab: &Lab, writer: NodeId, reader: NodeId) -> u32
     ensures { result ≡ link_transfer_count lab.now writer.number reader.number }
 {
-    let end = link_end_node(is_shorter(lab, writer, reader), writer, reader);
+    let end = scanned_link_end(is_shorter(lab, writer, reader), writer, reader);
     let mut words = 0;
     'places: for place in 0..lab.steps(end) {
         match lab.made_event_of_step(end, place) {
-            Some(made) => words += transfer_count_of_event(&made, writer, reader),
+            Some(made) => words += transfers_over_link_by_event(&made, writer, reader),
             None => return words,
         }
     }
@@ -66,12 +66,12 @@ pub fn count_transfers(lab: &Lab, writer: NodeId, reader: NodeId) -> u32
 }
 
 // The word that an event carried over the link, with this number.
-fn sent_as(made: &Made, writer: NodeId, reader: NodeId, number: u32) -> Option<Transfer>
+fn sent_as(made: &MadeEvent, writer: NodeId, reader: NodeId, number: u32) -> Option<Transfer>
     ensures { option_to_list result ≡ transfer_of_event writer.number reader.number number made.now }
 {
     match made {
-        Made::Own { .. } => None,
-        Made::Pass {
+        MadeEvent::Own { .. } => None,
+        MadeEvent::Pass {
             writer: from,
             writer_step,
             reader: to,
@@ -94,12 +94,12 @@ fn sent_as(made: &Made, writer: NodeId, reader: NodeId, number: u32) -> Option<T
 
 impl TransferIter {
     ghost use Rattle.std.specs.Prelude.{◌≡◌, ◌++◌, [], option_to_list, IfNone};
-    ghost use Rattle.ga_lab.specs.Machine.{State};
-    ghost use Rattle.ga_scheduler.specs.Words.{link_transfers, transfers_left};
+    ghost use Rattle.ga_lab.specs.Machine.{MachineState};
+    ghost use Rattle.ga_scheduler.specs.Words.{link_transfers, unlisted_transfers};
 
     /// All words from the writer to the reader, of which none is listed yet.
     pub fn new(writer: NodeId, reader: NodeId) -> Self
-        ensures { (s : State) → transfers_left s result ≡ link_transfers s writer.number reader.number }
+        ensures { (s : MachineState) → unlisted_transfers s result ≡ link_transfers s writer.number reader.number }
     {
         TransferIter {
             writer,
@@ -113,7 +113,7 @@ impl TransferIter {
     // Whether the reader's steps are to be read: at first where they are fewer than the writer's, then as before.
     #[tactic(auto, using(crate::proofs::WordCounts::at_first))]
     fn reads_reader(&self, lab: &Lab) -> bool
-        ensures { transfers_left lab.now (record self.now { by_reader = result }) ≡ transfers_left lab.now self.now }
+        ensures { unlisted_transfers lab.now (record self.now { by_reader = result }) ≡ unlisted_transfers lab.now self.now }
     {
         if self.place == 0 {
             is_shorter(lab, self.writer, self.reader)
@@ -125,12 +125,12 @@ impl TransferIter {
     /// The next word; none if all are listed. The time is linear in the number of steps between the words, of the writer or of
     /// the reader: of the one that had fewer at the first word.
     pub fn next(&mut self, lab: &Lab) -> Option<Transfer>
-        ensures word { transfers_left lab.now self.old ≡ option_to_list result ++ transfers_left lab.now self.new }
-        ensures end { IfNone result (transfers_left lab.now self.old ≡ []) }
+        ensures word { unlisted_transfers lab.now self.old ≡ option_to_list result ++ unlisted_transfers lab.now self.new }
+        ensures end { IfNone result (unlisted_transfers lab.now self.old ≡ []) }
     {
         let (writer, reader, before) = (self.writer, self.reader, self.before);
         let by_reader = self.reads_reader(lab);
-        let end = link_end_node(by_reader, writer, reader);
+        let end = scanned_link_end(by_reader, writer, reader);
         let steps = lab.steps(end);
         for place in self.place..steps {
             match lab.made_event_of_step(end, place) {

@@ -6,15 +6,15 @@ use Rattle.ga_asm_text.proofs.assembling.assemble_source.Goals as goal
 pub returns-in-Some : goal.returns-in-Some
 returns-in-Some g c = λ left before known held.
     let got = c.in-Ok.ensures left known in
-    let done = c.write_text.ensures before held in (
+    let done = c.write_text_with_status.ensures before held in (
       got.0,
       got.1,
       done.0,
       got.2,
       got.3,
       done.1,
-      assembles c.in-Ok.source.items got.4.0 got.0 got.1 done.0 c.write_text.result got.4.1 got.4.2
-          (assembly_written c.in-Ok.source.items c.in-Some.image.items done.0 c.write_text.result c.in-Some.ensures done.2),
+      assembles c.in-Ok.source.items got.4.0 got.0 got.1 done.0 c.write_text_with_status.result got.4.1 got.4.2
+          (assembly_written c.in-Ok.source.items c.in-Some.image.items done.0 c.write_text_with_status.result c.in-Some.ensures done.2),
     )
 
 pub returns-in-None : goal.returns-in-None

@@ -1,7 +1,7 @@
 use Rattle.std.proofs.Common.{List, ℕ, [], Some, inl, inr, refl, sym, ap, ◌∙◌, subst}
 use Rattle.std.proofs.lemmas.List.{append-nil}
 use Rattle.ga_debug_info.specs.Faults.{out_of_memory_text, input_too_long_text}
-use Rattle.ga_asm_text.specs.inner.{AssemblyJson}
+use Rattle.ga_asm_text.specs.inner.{WritesAssemblyJsonAfterRead}
 use Rattle.ga_asm_text.proofs.JsonSources.{assembles_as_json, unread_as_json}
 use Rattle.ga_asm_text.proofs.assembly_json.assemble_objects.Goals as goal
 
@@ -10,7 +10,7 @@ returns-in-Whole g c = λ left before known held.
     let got = c.in-Whole.ensures left known in
     let done = c.tell_source.ensures before held in
     let file : List ℕ = c.args.file.now in
-    let P : List ℕ → Type 0 = λ source. AssemblyJson file source done.0 c.tell_source.result in (
+    let P : List ℕ → Type 0 = λ source. WritesAssemblyJsonAfterRead file source done.0 c.tell_source.result in (
       got.0,
       got.1,
       done.0,

@@ -1,5 +1,5 @@
 use Rattle.std.proofs.Common.{◌++◌, codes, ◌∷◌, []}
-use Rattle.ga_asm_text.specs.inner.{hex_of}
+use Rattle.ga_asm_text.specs.inner.{last_hex_digits}
 use Rattle.ga_asm_text.proofs.Telling.{grown}
 use Rattle.ga_asm_text.proofs.SourceLines.{register_added, register_usual}
 use Rattle.ga_asm_text.proofs.disassembly.push_register.Goals as goal
@@ -11,7 +11,7 @@ returns-in_ok-push c =
     let one = c.extend_from_slice.new.self.items in
     let two = c.extend_from_slice-then-value-usual.new.self.items in
     let three = c.push_hex.new.text.items in
-    let hex = hex_of 5 c.args.value in
+    let hex = last_hex_digits 5 c.args.value in
     register_added old c.push.new.self.items name c.args.value c.args.usual c.if-value-usual.true
     (grown old three c.push.new.self.items ((name ++ codes " 0x") ++ hex) (10 ∷ [])
     (grown old two three (name ++ codes " 0x") hex

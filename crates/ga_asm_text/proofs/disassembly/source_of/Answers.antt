@@ -1,6 +1,6 @@
 use Rattle.std.proofs.Common.{◌∙◌, ℕ, subst, ap, arith}
 use Rattle.ga_grid.specs.Chip.{node_at}
-use Rattle.ga_asm_text.specs.inner.{Adds, node_words, named_words}
+use Rattle.ga_asm_text.specs.inner.{AppendsSourceWords, node_source_words, node_source_words_with_name}
 use Rattle.ga_asm_text.proofs.NodeTexts.{said_none, said_more, said_all, said_size, said_fit}
 use Rattle.ga_asm_text.proofs.disassembly.source_of.Goals as goal
 
@@ -11,7 +11,7 @@ pub loop-number-preserved : goal.loop-number-preserved
 loop-number-preserved c =
     said_more c.args.chip.now c.loop-number.text.items c.push_program.new.text.items c.loop-number.number c.node.result.now c.node.ensures.size c.loop-number-test.true
     (c.node.ensures.value ∙ ap (node_at c.args.chip.now) c.new-node.ensures)
-    (subst (λ (n : ℕ). Adds c.loop-number.text.items c.push_program.new.text.items (named_words n (node_words n c.node.result.now))) c.new-node.ensures c.in_ok-push_program.ensures.says)
+    (subst (λ (n : ℕ). AppendsSourceWords c.loop-number.text.items c.push_program.new.text.items (node_source_words_with_name n (node_source_words n c.node.result.now))) c.new-node.ensures c.in_ok-push_program.ensures.says)
     c.in_ok-push_program.ensures.fit c.loop-number.invariant
 
 pub returns-clause-says : goal.returns-clause-says

@@ -1,5 +1,5 @@
-use Rattle.ga_asm_text.specs.inner.{Grows}
+use Rattle.ga_asm_text.specs.inner.{IsTextExtended}
 use Rattle.ga_asm_text.proofs.program_listing.push_items.Given as goal
 
 abbrev pub invariant-loop-item : goal.invariant-loop-item
-invariant-loop-item l = Grows l.fn.text.items l.text.items
+invariant-loop-item l = IsTextExtended l.fn.text.items l.text.items

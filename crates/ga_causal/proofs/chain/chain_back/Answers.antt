@@ -1,9 +1,9 @@
 use Rattle.std.proofs.Common.{◌≡◌, ℕ, ◌+◌, ◌<◌, ◌∙◌, length, ap, arith}
-use Rattle.ga_causal.specs.declared.chain.Link.{Link}
+use Rattle.ga_causal.specs.declared.chain.ChainLink.{ChainLink}
 use Rattle.ga_causal.specs.Dependence.{dependence_rule_at}
 use Rattle.ga_causal.specs.Chains.{IsOldestCause}
 use Rattle.ga_causal.proofs.Exact.{flag_from_DependsOn}
-use Rattle.ga_causal.proofs.Oldest.{goes_on_longer, goes_on_first, rule_read, oldest_read}
+use Rattle.ga_causal.proofs.OldestEventPlaces.{goes_on_longer, goes_on_first, rule_read, oldest_read}
 use Rattle.ga_causal.proofs.ChainOf.{oldest_later, rule_there}
 use Rattle.ga_causal.proofs.chain.chain_back.Goals as goal
 
@@ -39,7 +39,7 @@ loop-at-preserved c =
           let k = c.args.skipped in
           goes_on_longer all (k + c.args.from) (k + c.args.to) (k + c.loop-at.at) (k + c.oldest-before.result) (record { place = k + c.loop-at.at; rule = c.rule.result }) c.loop-at.links.items c.push.new.self.items
           (λ h. c.loop-at-test.true (omega (arith, h))) (oldest_later all c.args.events.now k c.args.from c.loop-at.at c.oldest-before.result is o)
-          (ap (λ (z : ℕ). let w : Link = record { place = k + c.loop-at.at; rule = z } in w) (r ∙ rule_there all c.args.events.now k c.oldest-before.result c.loop-at.at is))
+          (ap (λ (z : ℕ). let w : ChainLink = record { place = k + c.loop-at.at; rule = z } in w) (r ∙ rule_there all c.args.events.now k c.oldest-before.result c.loop-at.at is))
           c.in_ok-push.ensures.items (c.loop-at.invariant.goes_on all is);
     }
 

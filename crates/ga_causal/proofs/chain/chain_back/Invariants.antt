@@ -1,6 +1,6 @@
 use Rattle.std.proofs.Common.{◌≡◌, ◌≤◌, ◌+◌, ◌++◌, List, true, false, drop, reverse, slice_index_or}
-use Rattle.ga_event.specs.declared.event.Cause.{Cause}
-use Rattle.ga_causal.specs.declared.chain.Link.{Link}
+use Rattle.ga_event.specs.declared.event.EventWithLook.{EventWithLook}
+use Rattle.ga_causal.specs.declared.chain.ChainLink.{ChainLink}
 use Rattle.ga_causal.specs.Dependence.{dependent_flags}
 use Rattle.ga_causal.specs.Chains.{IsChainTo}
 use Rattle.ga_causal.proofs.chain.chain_back.Given as goal
@@ -10,7 +10,7 @@ abbrev pub invariant-loop-at : goal.invariant-loop-at
 invariant-loop-at l = record {
   within : l.at ≤ l.to;
   dependent : slice_index_or (dependent_flags l.events l.from) l.at false ≡ true;
-  goes_on : (all : List Cause) → drop l.skipped all ≡ l.events → (links : List Link) → IsChainTo all (l.skipped + l.from) (l.skipped + l.at) links
+  goes_on : (all : List EventWithLook) → drop l.skipped all ≡ l.events → (links : List ChainLink) → IsChainTo all (l.skipped + l.from) (l.skipped + l.at) links
       → IsChainTo all (l.skipped + l.from) (l.skipped + l.to) (links ++ reverse l.links.items);
 }
 

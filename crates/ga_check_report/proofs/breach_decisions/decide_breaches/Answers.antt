@@ -4,7 +4,7 @@ use Rattle.ga_state_ends.specs.Ends.{EndSearchResult, AreEndsOfChip}
 use Rattle.ga_state_expectations.specs.declared.source.LineExpectation.{LineExpectation}
 use Rattle.ga_check_report.specs.declared.outcome.ExpectationOutcome.{ExpectationOutcome}
 use Rattle.ga_check_report.specs.Outcomes.{IsExpectationOutcome}
-use Rattle.ga_check_report.specs.BreachDecisions.{IsBreachDecided}
+use Rattle.ga_check_report.specs.BreachDecisions.{IsDecisionOfBreach}
 use Rattle.ga_check_report.proofs.BreachDecisions.{none_decided, decided_more}
 use Rattle.ga_check_report.proofs.breach_decisions.decide_breaches.Goals as goal
 
@@ -35,8 +35,8 @@ expectations-preserved c =
     let one : LineExpectation = c.index-expectations-place.result in
     let here : LineExpectation = get_or c.args.expectations.now c.expectations.place one in
     let at = slice_get-get_or c.args.expectations.now c.expectations.place one (omega arith) in
-    let there = subst (λ (f : EndSearchResult). IsBreachDecided f here.expectation c.outcome_at-outcome.result decision) c.expectations.invariant.same c.in_ok-decision.ensures.decided in
-    let is = subst (λ (o : ExpectationOutcome). IsBreachDecided found here.expectation o decision) c.outcome_at-outcome.ensures there in
+    let there = subst (λ (f : EndSearchResult). IsDecisionOfBreach f here.expectation c.outcome_at-outcome.result decision) c.expectations.invariant.same c.in_ok-decision.ensures.decided in
+    let is = subst (λ (o : ExpectationOutcome). IsDecisionOfBreach found here.expectation o decision) c.outcome_at-outcome.ensures there in
     record {
       same = c.decide_breach.ensures.same ∙ c.expectations.invariant.same;
       decided = decided_more found c.args.expectations.now c.args.outcomes.now c.expectations.place here c.expectations.decisions.items c.push_decision.new.decisions.items decision

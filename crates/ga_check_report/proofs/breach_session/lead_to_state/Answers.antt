@@ -3,24 +3,24 @@ use Rattle.std.specs.Prelude.{IsSome}
 use Rattle.std.proofs.lemmas.Option.{slice_get_within}
 use Rattle.ga_node.specs.Record.{NodeRecord}
 use Rattle.ga_event.specs.Apply.{replay}
-use Rattle.ga_lab.specs.Machine.{State, chip_of}
+use Rattle.ga_lab.specs.Machine.{MachineState, chip_of_machine}
 use Rattle.ga_check_report.proofs.Leading.{on_both}
 use Rattle.ga_check_report.proofs.BreachSessions.{led_to_unmet}
 use Rattle.ga_check_report.proofs.breach_session.lead_to_state.Goals as goal
 
-pub path_to-requires : goal.path_to-requires
-path_to-requires c = slice_get_within c.args.found.now.searched.chips c.args.state c.requires.unmet.chip c.requires.unmet.at_end.at
+pub path_from_initial_state-requires : goal.path_from_initial_state-requires
+path_from_initial_state-requires c = slice_get_within c.args.found.now.searched.chips c.args.state c.requires.unmet.chip c.requires.unmet.at_end.at
 
 pub make_all-requires : goal.make_all-requires
 make_all-requires c =
-    let s : State = c.args.lab.now in
-    let path = c.in-Ok.ensures.leads (chip_of s) c.requires.unmet.chip c.requires.ends.initial c.requires.unmet.at_end.at in
-    subst (λ (o : Option (List NodeRecord)). IsSome o) (sym (ap (replay (chip_of s)) c.as_slice.ensures.value ∙ path)) refl
+    let s : MachineState = c.args.lab.now in
+    let path = c.in-Ok.ensures.leads (chip_of_machine s) c.requires.unmet.chip c.requires.ends.initial c.requires.unmet.at_end.at in
+    subst (λ (o : Option (List NodeRecord)). IsSome o) (sym (ap (replay (chip_of_machine s)) c.as_slice.ensures.value ∙ path)) refl
 
 pub returns-in-Ok-clause-led : goal.returns-in-Ok-clause-led
 returns-in-Ok-clause-led c =
-    let s : State = c.args.lab.now in
-    let path = c.in-Ok.ensures.leads (chip_of s) c.requires.unmet.chip c.requires.ends.initial c.requires.unmet.at_end.at in
+    let s : MachineState = c.args.lab.now in
+    let path = c.in-Ok.ensures.leads (chip_of_machine s) c.requires.unmet.chip c.requires.ends.initial c.requires.unmet.at_end.at in
     on_both c.make_all.result
     (led_to_unmet s c.make_all.new.lab c.args.found.now c.args.expectation.now c.args.state c.as_slice.result.now c.requires.ends c.requires.unmet
-    (ap (replay (chip_of s)) c.as_slice.ensures.value ∙ path)) c.make_all.ensures.made c.make_all.ensures.there
+    (ap (replay (chip_of_machine s)) c.as_slice.ensures.value ∙ path)) c.make_all.ensures.made c.make_all.ensures.there

@@ -1,7 +1,7 @@
 use Rattle.std.proofs.Common.{ℕ, Option, subst}
-use Rattle.ga_state_expectations.specs.declared.source.Expectation.TheVariants.{AtEnds}
+use Rattle.ga_state_expectations.specs.declared.source.Expectation.TheVariants.{NodeAtEveryEnd}
 use Rattle.ga_state_expectations.specs.Unmet.{IsExpectationMetAtEnds, IsFirstUnmetState}
-use Rattle.ga_check_report.specs.Outcomes.{IsUnmetBreach}
+use Rattle.ga_check_report.specs.Outcomes.{IsUnmetNodeBreach}
 use Rattle.ga_check_report.proofs.JudgingLemmas.{widened}
 use Rattle.ga_check_report.proofs.BreachSessions.{no_session}
 use Rattle.ga_check_report.proofs.breach_session.tell_by_state.Goals as goal
@@ -15,8 +15,8 @@ returns-in-None g c = λ before held.
     let none = subst (λ (o : Option ℕ). IsFirstUnmetState c.args.found.now c.args.expectation.now o) c.in-None.is c.requires.unmet in (
       sent.0,
       sent.1,
-      no_session c.args.request c.args.lab.now c.args.found.now c.args.one.now (AtEnds c.args.expectation.now) c.args.asked c.without_breach.result sent.0 c.tell_unbroken.result
+      no_session c.args.request c.args.lab.now c.args.found.now c.args.one.now (NodeAtEveryEnd c.args.expectation.now) c.args.asked c.without_breach.result sent.0 c.tell_unbroken.result
           c.requires.said c.requires.ends
-          (widened c.args.found.now (IsExpectationMetAtEnds c.args.found.now c.args.expectation.now) (IsUnmetBreach c.args.found.now c.args.expectation.now) c.without_breach.result c.without_breach.ensures none)
+          (widened c.args.found.now (IsExpectationMetAtEnds c.args.found.now c.args.expectation.now) (IsUnmetNodeBreach c.args.found.now c.args.expectation.now) c.without_breach.result c.without_breach.ensures none)
           sent.2,
     )

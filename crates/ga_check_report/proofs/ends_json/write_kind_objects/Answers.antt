@@ -1,18 +1,18 @@
 use Rattle.std.proofs.Common.{List, ℕ, ◌++◌, refl}
 use Rattle.ga_json.specs.Compact.{json_line}
-use Rattle.ga_check_report.specs.EndJson.{end_object, decision_objects}
+use Rattle.ga_check_report.specs.EndJson.{end_kind_object, decision_json_objects_text}
 use Rattle.ga_json.proofs.Says.{begins, goes_on, cuts, ends_with}
 use Rattle.ga_check_report.proofs.ends_json.write_kind_objects.Goals as goal
 
 pub returns-in_err-write_end_object : goal.returns-in_err-write_end_object
 returns-in_err-write_end_object g c =
-    let text : List ℕ = json_line (end_object c.args.file.now c.args.number c.args.kind.now) in
-    let more : List ℕ = decision_objects c.args.file.now c.args.number c.args.decision in
+    let text : List ℕ = json_line (end_kind_object c.args.file.now c.args.number c.args.kind.now) in
+    let more : List ℕ = decision_json_objects_text c.args.file.now c.args.number c.args.decision in
     cuts c.from_residual.result c.write_end_object.new.writer text more c.from_residual.ensures.0 (begins g.W.Write.contents c.args.writer.now (text ++ more)) refl c.in_err-write_end_object.ensures
 
 pub returns : goal.returns
 returns g c =
-    let text : List ℕ = json_line (end_object c.args.file.now c.args.number c.args.kind.now) in
-    let more : List ℕ = decision_objects c.args.file.now c.args.number c.args.decision in
+    let text : List ℕ = json_line (end_kind_object c.args.file.now c.args.number c.args.kind.now) in
+    let more : List ℕ = decision_json_objects_text c.args.file.now c.args.number c.args.decision in
     ends_with c.write_decision_objects.result c.write_decision_objects.new.writer (goes_on c.write_end_object.new.writer text more (begins g.W.Write.contents c.args.writer.now (text ++ more)) refl c.in_ok-write_end_object.ensures)
     c.write_decision_objects.ensures

@@ -1,7 +1,7 @@
 use Rattle.std.proofs.Common.{◌≡◌, ◌∙◌, ◌<◌, List, [], length, get_or, refl, sym, subst, arith}
 use Rattle.std.proofs.lemmas.Option.{slice_get_within}
 use Rattle.ga_node.specs.Record.{NodeRecord}
-use Rattle.ga_lab.specs.Machine.{State, chip_of}
+use Rattle.ga_lab.specs.Machine.{MachineState, chip_of_machine}
 use Rattle.ga_state_ends.specs.Ends.{EndSearchResult, AreEndsOfChip}
 use Rattle.ga_state_expectations.specs.declared.source.LineExpectation.{LineExpectation}
 use Rattle.ga_check_report.specs.Outcomes.{IsExpectationOutcome}
@@ -17,12 +17,12 @@ expectations-init c = record {
 
 pub judge_and_undo-requires : goal.judge_and_undo-requires
 judge_and_undo-requires c =
-    subst (λ (f : EndSearchResult). AreEndsOfChip (chip_of c.expectations.lab) f) (sym c.expectations.invariant.same)
+    subst (λ (f : EndSearchResult). AreEndsOfChip (chip_of_machine c.expectations.lab) f) (sym c.expectations.invariant.same)
     (subst (λ (load : List NodeRecord). AreEndsOfChip load c.args.found.now) (sym (chip_as c.args.lab.now c.expectations.lab c.expectations.invariant.kept)) c.requires)
 
 pub expectations-preserved : goal.expectations-preserved
 expectations-preserved c =
-    let s : State = c.args.lab.now in
+    let s : MachineState = c.args.lab.now in
     let one : LineExpectation = c.index-expectations-place.result in
     let here : LineExpectation = get_or c.args.expectations.now c.expectations.place one in
     let there : IsExpectationOutcome c.expectations.lab c.args.found.now here.expectation c.in_ok-outcome.outcome =

@@ -5,4 +5,4 @@ use Rattle.ga_check_report.proofs.SameEnds.{one_end_known}
 use Rattle.ga_check_report.proofs.judging.judge_count.Goals as goal
 
 pub returns : goal.returns
-returns c = λ s. subst (IsExpectationOutcome s c.args.found.now OneEnd) (sym c.one_end_outcome.ensures) (one_end_known s c.args.found.now)
+returns c = λ s. subst (IsExpectationOutcome s c.args.found.now OneEnd) (sym c.single_end_expectation_outcome.ensures) (one_end_known s c.args.found.now)

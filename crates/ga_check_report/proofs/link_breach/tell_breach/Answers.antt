@@ -1,4 +1,4 @@
-use Rattle.ga_state_expectations.specs.declared.source.Expectation.TheVariants.{Passes}
+use Rattle.ga_state_expectations.specs.declared.source.Expectation.TheVariants.{LinkPassesWords}
 use Rattle.ga_check_report.proofs.BreachSessions.{led_session}
 use Rattle.ga_check_report.proofs.link_breach.tell_breach.Goals as goal
 
@@ -7,6 +7,6 @@ returns-in-Ok g c = λ before held.
     let sent = c.tell_saved_as.ensures before held in (
       sent.0,
       sent.1,
-      led_session c.args.request c.args.lab.now c.make_link_breach.new.lab c.args.one.now (Passes c.args.expected.now) c.args.asked sent.0 c.tell_saved_as.result c.requires.said
+      led_session c.args.request c.args.lab.now c.make_link_breach.new.lab c.args.one.now (LinkPassesWords c.args.expected.now) c.args.asked sent.0 c.tell_saved_as.result c.requires.said
           c.in-Ok.ensures.led sent.2,
     )

@@ -1,13 +1,13 @@
 use Rattle.std.proofs.Common.{subst}
-use Rattle.ga_lab.specs.Machine.{State}
-use Rattle.ga_check_report.specs.Never.{WritesNeverReport}
-use Rattle.ga_check_report.specs.Never.WritesNeverReport.{no_memory}
+use Rattle.ga_lab.specs.Machine.{MachineState}
+use Rattle.ga_check_report.specs.Never.{WritesNeverCheckReport}
+use Rattle.ga_check_report.specs.Never.WritesNeverCheckReport.{no_memory}
 use Rattle.ga_check_report.proofs.never.settle_and_look.Goals as goal
 
 pub returns-in-Ok : goal.returns-in-Ok
 returns-in-Ok g c = λ before held.
     let sent = c.look_for.ensures before held in
-    let P : State → Type 0 = λ s. WritesNeverReport c.args.request c.args.conditions.now c.args.session s sent.0 c.look_for.result in
+    let P : MachineState → Type 0 = λ s. WritesNeverCheckReport c.args.request c.args.conditions.now c.args.session s sent.0 c.look_for.result in
     (sent.0, sent.1, subst P c.in-Ok.ensures.ok sent.2)
 
 pub returns-in-Err : goal.returns-in-Err

@@ -1,4 +1,4 @@
-use Rattle.ga_check_report.specs.Never.WritesNeverReport.{one}
+use Rattle.ga_check_report.specs.Never.WritesNeverCheckReport.{one}
 use Rattle.ga_check_report.proofs.never.tell_event.Goals as goal
 
 pub returns-in-Ok : goal.returns-in-Ok

@@ -2,7 +2,7 @@ use Rattle.std.proofs.Common.{Option, subst}
 use Rattle.std.specs.Prelude.{IfNone}
 use Rattle.ga_state_conditions.specs.declared.finding.ReachedEvent.{ReachedEvent}
 use Rattle.ga_state_conditions.specs.Reached.{HasNoReachedEvent}
-use Rattle.ga_check_report.specs.Never.WritesNeverReport.{none}
+use Rattle.ga_check_report.specs.Never.WritesNeverCheckReport.{none}
 use Rattle.ga_check_report.proofs.never.tell_found_event.Goals as goal
 
 pub returns-in-None : goal.returns-in-None

@@ -1,7 +1,7 @@
 use Rattle.std.proofs.Common.{List, ℕ, ◌++◌, refl, Some, sym, ap, subst, ◌∙◌, append_assoc}
 use Rattle.std.proofs.lemmas.List.{append-nil}
-use Rattle.ga_lab.specs.Machine.{State}
-use Rattle.ga_check_report.specs.Settled.{check_start}
+use Rattle.ga_lab.specs.Machine.{MachineState}
+use Rattle.ga_check_report.specs.Settled.{check_start_state}
 use Rattle.ga_check_report.specs.Checking.{WritesEndsReport}
 use Rattle.ga_check_report.specs.Checking.IsCheckOutcome.{checked, unbegun}
 use Rattle.ga_check_report.proofs.report.check_ends.Goals as goal
@@ -13,7 +13,7 @@ returns-in-Ok g c = λ left before known held.
     let ahead : List ℕ = c.open_program.new.input.bytes in
     let silent = begun.3 ∙ ap Some (ap (λ (t : List ℕ). before ++ t) begun.4.0 ∙ append-nil before) in
     let sent = c.tell_settled.ensures before silent in
-    let P : State → Type 0 = λ s. WritesEndsReport c.args.request c.args.asked (check_start c.args.settles s) sent.0 c.tell_settled.result in (
+    let P : MachineState → Type 0 = λ s. WritesEndsReport c.args.request c.args.asked (check_start_state c.args.settles s) sent.0 c.tell_settled.result in (
       text ++ ahead,
       begun.0,
       sent.0,

@@ -3,7 +3,7 @@ use Rattle.std.specs.Prelude.{slice_get, slice_index_or, IsSome}
 use Rattle.std.proofs.lemmas.Option.{slice_get-get_or}
 use Rattle.ga_node.specs.Record.{NodeRecord}
 use Rattle.ga_event.specs.Apply.{replay}
-use Rattle.ga_lab.specs.Machine.{State, chip_of}
+use Rattle.ga_lab.specs.Machine.{MachineState, chip_of_machine}
 use Rattle.ga_state_ends.specs.Ends.{EndSearchResult}
 use Rattle.ga_state_ends.specs.declared.end_kind.EndKind.{EndKind}
 use Rattle.ga_check_report.proofs.Leading.{state_within, path_can, led_to, on_both}
@@ -14,27 +14,27 @@ numbered : (kinds listed : List EndKind) (number : ℕ) (default : EndKind) → 
 numbered kinds listed number default is within =
     subst (λ (z : List EndKind). slice_get listed number ≡ Some (slice_index_or z number default)) (sym is) (slice_get-get_or listed number default within)
 
-pub path_to-requires : goal.path_to-requires
-path_to-requires c =
+pub path_from_initial_state-requires : goal.path_from_initial_state-requires
+path_from_initial_state-requires c =
     let nothing : EndKind = record { nodes = []; unclean = []; ends = 0; state = 0 } in
-    state_within (chip_of c.args.lab.now) c.args.found.now (c.args.asked - 1) (slice_index_or c.kinds.result.now (c.args.asked - 1) nothing) c.requires.ends
+    state_within (chip_of_machine c.args.lab.now) c.args.found.now (c.args.asked - 1) (slice_index_or c.kinds.result.now (c.args.asked - 1) nothing) c.requires.ends
     (numbered c.kinds.result.now c.args.found.now.kinds (c.args.asked - 1) nothing c.kinds.ensures (omega (arith, c.requires.asked, c.requires.within)))
 
 pub make_all-requires : goal.make_all-requires
 make_all-requires c =
     let nothing : EndKind = record { nodes = []; unclean = []; ends = 0; state = 0 } in
-    let s : State = c.args.lab.now in
+    let s : MachineState = c.args.lab.now in
     let found : EndSearchResult = c.args.found.now in
     let kind : EndKind = slice_index_or c.kinds.result.now (c.args.asked - 1) nothing in
     let path = path_can s found (c.args.asked - 1) kind c.in-Ok.events.items c.requires.ends
     (numbered c.kinds.result.now found.kinds (c.args.asked - 1) nothing c.kinds.ensures (omega (arith, c.requires.asked, c.requires.within)))
     c.in-Ok.ensures.leads in
-    subst (λ (o : Option (List NodeRecord)). IsSome o) (sym (ap (replay (chip_of s)) c.as_slice.ensures.value ∙ path)) refl
+    subst (λ (o : Option (List NodeRecord)). IsSome o) (sym (ap (replay (chip_of_machine s)) c.as_slice.ensures.value ∙ path)) refl
 
 pub returns-in-Ok-clause-led : goal.returns-in-Ok-clause-led
 returns-in-Ok-clause-led c =
     let nothing : EndKind = record { nodes = []; unclean = []; ends = 0; state = 0 } in
-    let s : State = c.args.lab.now in
+    let s : MachineState = c.args.lab.now in
     let found : EndSearchResult = c.args.found.now in
     let kind : EndKind = slice_index_or c.kinds.result.now (c.args.asked - 1) nothing in
     let leads : (load chip : List NodeRecord) → slice_get found.searched.chips 0 ≡ Some load → slice_get found.searched.chips kind.state ≡ Some chip

@@ -1,12 +1,12 @@
 use Rattle.std.proofs.Common.{map, sym, ◌∙◌}
 use Rattle.std.proofs.lemmas.List.{length-map}
-use Rattle.ga_grid.specs.Chip.{records_of}
+use Rattle.ga_grid.specs.Chip.{records_of_chip}
 use Rattle.ga_console.proofs.Races.{is_race, race_count}
 use Rattle.ga_console.proofs.race.race_on.Goals as goal
 
 pub returns-in-Ok-race : goal.returns-in-Ok-race
 returns-in-Ok-race g c =
-    let load = records_of c.args.chip in
+    let load = records_of_chip c.args.chip in
     let lists = c.in-Ok.lists in
     let calls = map (λ v. v.items) lists.items in
     let closed = c.in-Ok-race.closed in

@@ -1,10 +1,10 @@
 use Rattle.std.proofs.Common.{◌≡◌, ℕ, List, ◌++◌, length, take}
 use Rattle.std.specs.Prelude.{flat_map}
-use Rattle.ga_text.specs.Output.{IsTextWritten}
+use Rattle.ga_text.specs.Output.{IsTextWrittenOrPending}
 use Rattle.ga_display.specs.Texts.{event_text, trace_header_text}
 use Rattle.ga_console.proofs.readings.say_steps.Given as goal
 
 abbrev pub invariant-steps : goal.invariant-steps
 invariant-steps g l = (l.writer.stream.ghost_name ≡ l.fn.writer.stream.ghost_name)
-    × ((before said : List ℕ) → IsTextWritten (g.W.Write.contents l.fn.writer.stream.now) before said l.fn.writer.pending.items
-    → IsTextWritten (g.W.Write.contents l.writer.stream.now) before (said ++ (trace_header_text l.fn.node (length l.steps) ++ flat_map event_text (take l.made-index l.steps))) l.writer.pending.items)
+    × ((before said : List ℕ) → IsTextWrittenOrPending (g.W.Write.contents l.fn.writer.stream.now) before said l.fn.writer.pending.items
+    → IsTextWrittenOrPending (g.W.Write.contents l.writer.stream.now) before (said ++ (trace_header_text l.fn.node (length l.steps) ++ flat_map event_text (take l.made-index l.steps))) l.writer.pending.items)

@@ -1,8 +1,8 @@
 use Rattle.std.proofs.Common.{◌≡◌, ℕ, List, [], ◌∷◌, ◌++◌, Some, inl, inr, refl, sym, ap, subst, ◌∙◌, append_assoc, arith, length, ◌<◌, Ok}
 use Rattle.std.proofs.lemmas.List.{append-nil}
-use Rattle.ga_image.specs.FirstFault.{memory_fault}
+use Rattle.ga_image.specs.FirstFault.{out_of_memory_fault}
 use Rattle.ga_text.specs.Input.{UnreadInput}
-use Rattle.ga_console.specs.inner.Run.{AfterImage}
+use Rattle.ga_console.specs.inner.Run.{WritesSessionAfterImage}
 use Rattle.ga_console.proofs.RunLemmas.{runs_refused, runs_full, runs_after, nothing_left}
 use Rattle.ga_console.proofs.run.session_with_responder.Goals as goal
 
@@ -23,7 +23,7 @@ returns-in-Err g c = λ left before known held.
       from_start c.new-input.result left (got.0 ++ got.1) c.new-input.ensures got.3,
       got.2,
       sent.1,
-      runs_refused g.S.Responder.answers g.S.Responder.refuses g.S.Responder.begin c.args.limit got.0 got.1 sent.0 memory_fault c.write_image_refusal.result (inl refl) sent.2,
+      runs_refused g.S.Responder.answers g.S.Responder.refuses g.S.Responder.begin c.args.limit got.0 got.1 sent.0 out_of_memory_fault c.write_image_refusal.result (inl refl) sent.2,
     )
 
 pub returns-in-Ok-Failed : goal.returns-in-Ok-Failed
@@ -40,9 +40,9 @@ returns-in-Ok-Failed g c = λ left before known held.
       inr (inl (refl, got.2.0)),
     )
 
-pub returns-in-Ok-Past : goal.returns-in-Ok-Past
-returns-in-Ok-Past g c = λ left before known held.
-    let reads = rw c.in-Ok-Past.field-0-is at c.in-Ok-Past.ensures.reads in
+pub returns-in-Ok-PastLimit : goal.returns-in-Ok-PastLimit
+returns-in-Ok-PastLimit g c = λ left before known held.
+    let reads = rw c.in-Ok-PastLimit.field-0-is at c.in-Ok-PastLimit.ensures.reads in
     let got = reads left known in
     let text : List ℕ = c.read_image.new.text.items in
     let b = got.2.1.byte in
@@ -56,15 +56,15 @@ returns-in-Ok-Past g c = λ left before known held.
       done.5,
       runs_full g.S.Responder.answers g.S.Responder.refuses g.S.Responder.begin c.args.limit c.read_image.new.input.taken b text done.0 done.1 done.2 c.after_image.result
           (omega (arith, got.2.1.takes.counts, got.2.1.full, taken_none c.new-input.result c.new-input.ensures)) got.2.0
-          (subst (λ (l : List ℕ). AfterImage g.S.Responder.answers g.S.Responder.refuses g.S.Responder.begin c.args.limit text c.read_image.new.input.taken l done.0 done.1 done.2 c.after_image.result) got.2.2 done.6),
+          (subst (λ (l : List ℕ). WritesSessionAfterImage g.S.Responder.answers g.S.Responder.refuses g.S.Responder.begin c.args.limit text c.read_image.new.input.taken l done.0 done.1 done.2 c.after_image.result) got.2.2 done.6),
     )
 
-pub returns-in-Ok-Ended : goal.returns-in-Ok-Ended
-returns-in-Ok-Ended g c = λ left before known held.
-    let reads = rw c.in-Ok-Ended.field-0-is at c.in-Ok-Ended.ensures.reads in
+pub returns-in-Ok-EndOfInput : goal.returns-in-Ok-EndOfInput
+returns-in-Ok-EndOfInput g c = λ left before known held.
+    let reads = rw c.in-Ok-EndOfInput.field-0-is at c.in-Ok-EndOfInput.ensures.reads in
     let got = reads left known in
     let text : List ℕ = c.read_image.new.text.items in
-    let done = c.after_image-in-Ok-Ended.ensures got.0 before got.1 held in
+    let done = c.after_image-in-Ok-EndOfInput.ensures got.0 before got.1 held in
     let empty : c.read_image.new.input.bytes ++ got.0 ≡ [] = ap (λ (l : List ℕ). l ++ got.0) got.2.2 ∙ got.2.3 in
     let nil = nothing_left done.0 done.1 (sym empty ∙ done.3) in (
       text ++ done.0,
@@ -74,7 +74,7 @@ returns-in-Ok-Ended g c = λ left before known held.
           ∙ sym (append_assoc text done.0 done.1 ∙ ap (λ (l : List ℕ). text ++ l) (sym done.3 ∙ empty) ∙ append-nil text),
       done.4,
       done.5,
-      runs_after g.S.Responder.answers g.S.Responder.refuses g.S.Responder.begin c.args.limit c.read_image.new.input.taken text c.read_image.new.input.bytes done.0 done.1 done.2 c.after_image-in-Ok-Ended.result
+      runs_after g.S.Responder.answers g.S.Responder.refuses g.S.Responder.begin c.args.limit c.read_image.new.input.taken text c.read_image.new.input.bytes done.0 done.1 done.2 c.after_image-in-Ok-EndOfInput.result
           (omega (arith, got.2.1.counts, taken_none c.new-input.result c.new-input.ensures)) (inr (inl (nil.0, nil.1, got.2.0)))
           (λ e. inr (inl (nil.0, nil.1, got.2.0))) done.6,
     )

@@ -1,10 +1,10 @@
 use Rattle.std.proofs.Common.{◌∙◌, List, Some, None, refl, ap, subst}
-use Rattle.ga_causal.specs.Dependence.{is_marked}
+use Rattle.ga_causal.specs.Dependence.{is_node_flagged}
 use Rattle.ga_text.specs.Lines.{Text}
 use Rattle.ga_grid.specs.declared.node_id.NodeId.{NodeId}
 use Rattle.ga_dap_breakpoints.specs.declared.breakpoint.Breakpoint.{Breakpoint}
-use Rattle.ga_dap_control.specs.Back.{rollback_summary_text, program_after_reverse}
-use Rattle.ga_dap.specs.Telling.{AreReverseMessages}
+use Rattle.ga_dap_control.specs.Back.{rollback_summary_text, debuggee_after_reverse_continue}
+use Rattle.ga_dap.specs.Telling.{AreMoveBackMessages}
 use Rattle.ga_dap.proofs.Known.{carries_so, shown_so}
 use Rattle.ga_dap.proofs.back.reverse.Goals as goal
 
@@ -13,25 +13,25 @@ returns-in_default c = carries_so c.refuse.result _ _ _ _ _ _ c.refuse.ensures (
 
 pub returns : goal.returns
 returns c =
-    let before = is_marked c.has_thread_by_node-before.result in
-    let shown = shown_so c.args.program.now c.as_slice.result.now before c.as_slice.ensures.value c.has_thread_by_node-before.ensures.marks in
+    let before = is_node_flagged c.thread_flags_by_node-before.result in
+    let shown = shown_so c.args.program.now c.as_slice.result.now before c.as_slice.ensures.value c.thread_flags_by_node-before.ensures.marks in
     carries_so c.emit_rollback_with_retry.result _ _ _ _ _ _ c.emit_rollback_with_retry.ensures
     (λ messages told. (
       Some c.in-Some.node,
       c.in-Some.ensures,
       (
         c.reverse_continue_node-gone.ensures.program
-            ∙ ap (λ (z : List Breakpoint). program_after_reverse c.args.program.now c.in-Some.node z) c.as_slice-2.ensures.value,
+            ∙ ap (λ (z : List Breakpoint). debuggee_after_reverse_continue c.args.program.now c.in-Some.node z) c.as_slice-2.ensures.value,
         (
           before,
           c.reverse_continue_node-gone.result.before,
           c.reverse_continue_node-gone.result.removed,
           shown,
           c.reverse_continue_node-gone.ensures.went,
-          subst (λ (r : Text). AreReverseMessages before c.reverse_continue_node-gone.new.program c.args.request.now c.in-Some.node
+          subst (λ (r : Text). AreMoveBackMessages before c.reverse_continue_node-gone.new.program c.args.request.now c.in-Some.node
               (rollback_summary_text c.in-Some.node c.reverse_continue_node-gone.result.before c.reverse_continue_node-gone.result.removed c.reverse_continue_node-gone.new.program.lab) r messages)
               c.reverse_stop_reason-reason.ensures
-              (subst (λ (n : NodeId). AreReverseMessages before c.reverse_continue_node-gone.new.program c.args.request.now n
+              (subst (λ (n : NodeId). AreMoveBackMessages before c.reverse_continue_node-gone.new.program c.args.request.now n
               (rollback_summary_text n c.reverse_continue_node-gone.result.before c.reverse_continue_node-gone.result.removed c.reverse_continue_node-gone.new.program.lab) c.reverse_stop_reason-reason.result.now messages)
               c.reverse_continue_node-gone.ensures.node told),
         ),

@@ -1,4 +1,4 @@
-use Rattle.ga_dap.proofs.LaunchedProgram.{not_read}
+use Rattle.ga_dap.proofs.LaunchedSession.{not_read}
 use Rattle.ga_dap.proofs.launching.launched_file.Goals as goal
 
 pub returns-in-Err : goal.returns-in-Err

@@ -2,21 +2,21 @@ use Rattle.std.proofs.Common.{◌≡◌, ℕ, [], ◌∷◌, Option, None, Resul
 use Rattle.std.specs.Prelude.{IfOk}
 use Rattle.ga_text.specs.Lines.{Bytes, Text}
 use Rattle.ga_scheduler.specs.declared.schedule.Schedule.{Schedule}
-use Rattle.ga_dap_protocol.specs.Sent.{SentMessages}
+use Rattle.ga_dap_protocol.specs.Sent.{OutboxContent}
 use Rattle.ga_dap_protocol.specs.declared.request.ClientRequest.{ClientRequest}
 use Rattle.ga_dap_queries.specs.Sending.{Messages, SendsMessage, SendsMessages}
 use Rattle.ga_dap_queries.proofs.Sent.{sent_one}
-use Rattle.ga_dap_control.specs.declared.launched.LaunchedProgram.{LaunchedProgram}
-use Rattle.ga_dap.specs.Opening.{IsNoProgram}
+use Rattle.ga_dap_control.specs.declared.launched.LaunchedSession.{LaunchedSession}
+use Rattle.ga_dap.specs.Opening.{IsRefusedProgramText}
 use Rattle.ga_dap.specs.Launches.{LaunchesText, launch_messages, launch_error_message}
 use Rattle.ga_dap.proofs.launching.launched_text.Goals as goal
 
 -- the reason is reported why nothing is launched
-refused_so : {E : Type 0} (result : Result (Option LaunchedProgram) E) (text : Bytes) (path : Text) (limit : ℕ) (schedule : Schedule) (request : ClientRequest) (why : Text) (old new : SentMessages)
-    → IsNoProgram text → IfOk result (λ (l : Option LaunchedProgram). (l ≡ None) × SendsMessage old (launch_error_message request path why) new)
-    → IfOk result (λ (l : Option LaunchedProgram). (messages : Messages) × LaunchesText text path limit schedule request messages l × SendsMessages old messages new)
+refused_so : {E : Type 0} (result : Result (Option LaunchedSession) E) (text : Bytes) (path : Text) (limit : ℕ) (schedule : Schedule) (request : ClientRequest) (why : Text) (old new : OutboxContent)
+    → IsRefusedProgramText text → IfOk result (λ (l : Option LaunchedSession). (l ≡ None) × SendsMessage old (launch_error_message request path why) new)
+    → IfOk result (λ (l : Option LaunchedSession). (messages : Messages) × LaunchesText text path limit schedule request messages l × SendsMessages old messages new)
 refused_so (Ok l) text path limit schedule request why old new none h =
-    let P : Option LaunchedProgram → Type 0 = λ z. LaunchesText text path limit schedule request (launch_error_message request path why ∷ []) z in
+    let P : Option LaunchedSession → Type 0 = λ z. LaunchesText text path limit schedule request (launch_error_message request path why ∷ []) z in
     (launch_error_message request path why ∷ [], subst P (sym h.0) (none, why, refl), sent_one old (launch_error_message request path why) new h.1)
 refused_so (Err e) text path limit schedule request why old new none h = tt
 

@@ -1,6 +1,6 @@
 use Rattle.std.proofs.Common.{List, refl, subst}
 use Rattle.ga_source.specs.declared.program.Program.{Program}
-use Rattle.ga_debug_info.specs.Given.{HasSourceWords}
+use Rattle.ga_debug_info.specs.Given.{HasGivenRangesOfSource}
 use Rattle.ga_debug_info.specs.Notes.{IsDebugInfoOfSource}
 use Rattle.ga_dap.proofs.opening.source_contents.Goals as goal
 
@@ -17,5 +17,5 @@ returns-in_ok-lab-in-Ok-clause-ok c = record {
   load = c.in_ok-lab-in-Ok.ensures;
   noted = refl;
   says = subst (λ (programs : List Program). IsDebugInfoOfSource c.args.source.now programs c.in_ok-notes-in-Ok.notes) c.as_slice-programs.ensures.value c.in_ok-notes-in-Ok.ensures.notes;
-  gives = subst (λ (programs : List Program). HasSourceWords programs c.in_ok-notes-in-Ok.notes) c.as_slice-programs.ensures.value c.in_ok-notes-in-Ok.ensures.given;
+  gives = subst (λ (programs : List Program). HasGivenRangesOfSource programs c.in_ok-notes-in-Ok.notes) c.as_slice-programs.ensures.value c.in_ok-notes-in-Ok.ensures.given;
 }

@@ -1,14 +1,14 @@
 use Rattle.std.proofs.Common.{◌∙◌, ℕ, suc, List, [], ◌++◌, Some, refl, sym, ap, subst, inl}
 use Rattle.std.proofs.lemmas.List.{append-nil}
-use Rattle.ga_dap_protocol.specs.Sent.{SentMessages}
+use Rattle.ga_dap_protocol.specs.Sent.{OutboxContent}
 use Rattle.ga_dap.specs.Client.{ServesIterations, initial_server_state}
-use Rattle.ga_dap.specs.inner.Turning.{serving_at}
+use Rattle.ga_dap.specs.inner.Turning.{server_state_of_parts}
 use Rattle.ga_dap.proofs.Serves.{begins_so, serves_on, ends_so, pends, all_sent, written_all}
 use Rattle.ga_dap.proofs.serving.serve_client.Goals as goal
 
 pub serving-init : goal.serving-init
 serving-init g c = record {
-  sent = ap (λ (z : SentMessages). z.bytes) c.new-out.ensures;
+  sent = ap (λ (z : OutboxContent). z.bytes) c.new-out.ensures;
   serves = λ left before known held. (
     left,
     [],
@@ -21,7 +21,7 @@ serving-init g c = record {
 
 pub serving-preserved : goal.serving-preserved
 serving-preserved g c = record {
-  sent = ap (λ (z : SentMessages). z.bytes) c.in-Ok.ensures.sent;
+  sent = ap (λ (z : OutboxContent). z.bytes) c.in-Ok.ensures.sent;
   serves = λ left before known held.
       let inv = c.serving.invariant.serves left before known held in
       let made = c.in-On.ensures inv.0 inv.3 in
@@ -33,8 +33,8 @@ serving-preserved g c = record {
         made.1,
         all_sent _ before (inv.1 ++ c.turn.new.out.bytes) told,
         let P : ℕ → Type 0 = λ seq. ServesIterations g.S.ProgramFiles.gives g.A.PendingInput.tells (initial_server_state c.args.sources.now c.args.arrivals.now left) (suc inv.2) (inv.1 ++ c.turn.new.out.bytes)
-            (serving_at c.turn.new.sources c.turn.new.arrivals c.turn.new.session seq c.turn.new.inbox made.0) in
-            subst P (sym (ap (λ (z : SentMessages). z.seq) c.in-Ok.ensures.sent)) more,
+            (server_state_of_parts c.turn.new.sources c.turn.new.arrivals c.turn.new.session seq c.turn.new.inbox made.0) in
+            subst P (sym (ap (λ (z : OutboxContent). z.seq) c.in-Ok.ensures.sent)) more,
       );
 }
 
@@ -48,7 +48,7 @@ returns-then-session g c = λ left before known held.
       record {
         count = inv.2;
         said = inv.1;
-        last = serving_at c.serving.sources c.serving.arrivals c.serving.session c.serving.out.seq c.serving.inbox inv.0;
+        last = server_state_of_parts c.serving.sources c.serving.arrivals c.serving.session c.serving.out.seq c.serving.inbox inv.0;
         read = c.serving.inbox;
         serves = inv.5;
         ends = inl c.if-session.true;
@@ -68,10 +68,10 @@ returns-in-End g c = λ left before known held.
       record {
         count = inv.2;
         said = inv.1;
-        last = serving_at c.serving.sources c.serving.arrivals c.serving.session c.serving.out.seq c.serving.inbox inv.0;
+        last = server_state_of_parts c.serving.sources c.serving.arrivals c.serving.session c.serving.out.seq c.serving.inbox inv.0;
         read = made.2.1;
         serves = inv.5;
-        ends = ends_so (serving_at c.serving.sources c.serving.arrivals c.serving.session c.serving.out.seq c.serving.inbox inv.0) c.in-End.end c.if-session.false made.2.0;
+        ends = ends_so (server_state_of_parts c.serving.sources c.serving.arrivals c.serving.session c.serving.out.seq c.serving.inbox inv.0) c.in-End.end c.if-session.false made.2.0;
         left = made.2.2;
         out = written_all c.in-End.end inv.1;
       },
@@ -90,7 +90,7 @@ returns-in-Err g c = λ left before known held.
       record {
         count = suc inv.2;
         said = inv.1 ++ c.turn.new.out.bytes;
-        last = serving_at c.turn.new.sources c.turn.new.arrivals c.turn.new.session c.turn.new.out.seq c.turn.new.inbox made.0;
+        last = server_state_of_parts c.turn.new.sources c.turn.new.arrivals c.turn.new.session c.turn.new.out.seq c.turn.new.inbox made.0;
         read = c.turn.new.inbox;
         serves = more;
         ends = tt;
@@ -109,7 +109,7 @@ returns g c = λ left before known held.
       record {
         count = inv.2;
         said = inv.1;
-        last = serving_at c.serving.sources c.serving.arrivals c.serving.session c.serving.out.seq c.serving.inbox inv.0;
+        last = server_state_of_parts c.serving.sources c.serving.arrivals c.serving.session c.serving.out.seq c.serving.inbox inv.0;
         read = c.serving.inbox;
         serves = inv.5;
         ends = tt;

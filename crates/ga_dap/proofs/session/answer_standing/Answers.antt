@@ -1,12 +1,12 @@
 use Rattle.std.proofs.Common.{refl, subst, sym, ap}
 use Rattle.ga_dap_queries.specs.declared.debuggee.Debuggee.{Debuggee}
 use Rattle.ga_dap_queries.specs.declared.request_name.RequestName.{RequestName}
-use Rattle.ga_dap_control.specs.declared.launched.LaunchedProgram.{LaunchedProgram}
+use Rattle.ga_dap_control.specs.declared.launched.LaunchedSession.{LaunchedSession}
 use Rattle.ga_dap.specs.Answering.{PerformsRequest}
 use Rattle.ga_dap.proofs.Known.{of_place, carries_so}
 use Rattle.ga_dap.proofs.session.answer_standing.Goals as goal
 
-abbrev with_program : LaunchedProgram → Debuggee → LaunchedProgram
+abbrev with_program : LaunchedSession → Debuggee → LaunchedSession
 with_program l p = record l { program = p }
 
 pub returns-in-StepBack : goal.returns-in-StepBack

@@ -12,17 +12,17 @@ returns-in-Err-Json g c =
     declined_so g.S.ProgramFiles.gives c.args.sources.now c.args.session.now c.args.content.now fault.Json c.args.out.now c.decline.new.out c.decline.result (λ same. cc)
     (rw c.in-Err-Json.field-0-is at c.in-Err-Json.ensures.err) c.decline.ensures
 
-pub returns-in-Err-Kind : goal.returns-in-Err-Kind
-returns-in-Err-Kind g c =
-    declined_so g.S.ProgramFiles.gives c.args.sources.now c.args.session.now c.args.content.now fault.Kind c.args.out.now c.decline-in-Err-Kind.new.out c.decline-in-Err-Kind.result (λ same. cc)
-    (rw c.in-Err-Kind.field-0-is at c.in-Err-Kind.ensures.err) c.decline-in-Err-Kind.ensures
+pub returns-in-Err-WrongType : goal.returns-in-Err-WrongType
+returns-in-Err-WrongType g c =
+    declined_so g.S.ProgramFiles.gives c.args.sources.now c.args.session.now c.args.content.now fault.WrongType c.args.out.now c.decline-in-Err-WrongType.new.out c.decline-in-Err-WrongType.result (λ same. cc)
+    (rw c.in-Err-WrongType.field-0-is at c.in-Err-WrongType.ensures.err) c.decline-in-Err-WrongType.ensures
 
 pub returns-in-Err-Seq : goal.returns-in-Err-Seq
 returns-in-Err-Seq g c =
     declined_so g.S.ProgramFiles.gives c.args.sources.now c.args.session.now c.args.content.now fault.Seq c.args.out.now c.decline-in-Err-Seq.new.out c.decline-in-Err-Seq.result (λ same. cc)
     (rw c.in-Err-Seq.field-0-is at c.in-Err-Seq.ensures.err) c.decline-in-Err-Seq.ensures
 
-pub returns-in-Err-Command : goal.returns-in-Err-Command
-returns-in-Err-Command g c =
-    declined_so g.S.ProgramFiles.gives c.args.sources.now c.args.session.now c.args.content.now fault.Command c.args.out.now c.decline-in-Err-Command.new.out c.decline-in-Err-Command.result (λ same. cc)
-    (rw c.in-Err-Command.field-0-is at c.in-Err-Command.ensures.err) c.decline-in-Err-Command.ensures
+pub returns-in-Err-MissingCommand : goal.returns-in-Err-MissingCommand
+returns-in-Err-MissingCommand g c =
+    declined_so g.S.ProgramFiles.gives c.args.sources.now c.args.session.now c.args.content.now fault.MissingCommand c.args.out.now c.decline-in-Err-MissingCommand.new.out c.decline-in-Err-MissingCommand.result (λ same. cc)
+    (rw c.in-Err-MissingCommand.field-0-is at c.in-Err-MissingCommand.ensures.err) c.decline-in-Err-MissingCommand.ensures

@@ -4,17 +4,17 @@ use Rattle.serde_json.specs.View.{view}
 use Rattle.ga_dap_queries.specs.Sending.{Message, bare_success_response, refused_response}
 use Rattle.ga_dap_queries.proofs.Sent.{ok_then}
 use Rattle.ga_dap_control.specs.declared.configuration.Configuration.{Configuration}
-use Rattle.ga_dap_control.specs.Breakpoints.{is_text_value, SetsFiltersIfKnown}
+use Rattle.ga_dap_control.specs.Breakpoints.{is_json_string_equal_to, SetsExceptionFiltersIfKnown}
 use Rattle.ga_dap_control.proofs.breakpoints.set_filters_if.Goals as goal
 
 pub returns-in_ok-acknowledge-clause-sent : goal.returns-in_ok-acknowledge-clause-sent
 returns-in_ok-acknowledge-clause-sent c =
     let new : Configuration = record c.args.settings.now { stops = c.has_filter-stops.result; stuck = c.has_filter-stuck.result } in
-    let e : new ≡ record c.args.settings.now { stops = list_any (is_text_value (codes "stop")) (map view c.args.filters.now); stuck = list_any (is_text_value (codes "stuck")) (map view c.args.filters.now) } =
+    let e : new ≡ record c.args.settings.now { stops = list_any (is_json_string_equal_to (codes "stop")) (map view c.args.filters.now); stuck = list_any (is_json_string_equal_to (codes "stuck")) (map view c.args.filters.now) } =
     ap (λ (z : Bool). record c.args.settings.now { stops = z; stuck = c.has_filter-stuck.result }) c.has_filter-stops.ensures
-    ∙ ap (λ (z : Bool). record c.args.settings.now { stops = list_any (is_text_value (codes "stop")) (map view c.args.filters.now); stuck = z }) c.has_filter-stuck.ensures in (
+    ∙ ap (λ (z : Bool). record c.args.settings.now { stops = list_any (is_json_string_equal_to (codes "stop")) (map view c.args.filters.now); stuck = z }) c.has_filter-stuck.ensures in (
       bare_success_response c.args.request.now,
-      subst (λ (z : Bool). SetsFiltersIfKnown z (map view c.args.filters.now) c.args.settings.now c.args.request.now (bare_success_response c.args.request.now) new) (sym c.if-known.true) (refl, e),
+      subst (λ (z : Bool). SetsExceptionFiltersIfKnown z (map view c.args.filters.now) c.args.settings.now c.args.request.now (bare_success_response c.args.request.now) new) (sym c.if-known.true) (refl, e),
       c.in_ok-acknowledge.ensures.sent,
     )
 
@@ -24,6 +24,6 @@ returns-else-known-clause-sent c =
     ok_then c.refuse.result c.refuse.ensures.sent
     (λ sent. (
       message,
-      subst (λ (z : Bool). SetsFiltersIfKnown z (map view c.args.filters.now) c.args.settings.now c.args.request.now message c.args.settings.now) (sym c.if-known.false) (refl, refl),
+      subst (λ (z : Bool). SetsExceptionFiltersIfKnown z (map view c.args.filters.now) c.args.settings.now c.args.request.now message c.args.settings.now) (sym c.if-known.false) (refl, refl),
       sent,
     ))

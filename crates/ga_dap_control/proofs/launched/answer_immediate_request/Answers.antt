@@ -54,7 +54,7 @@ returns-in-Disassemble-clause-sent c = with_command _ the.Disassemble c.args.com
 
 pub returns-in-ConfigurationDone-clause-sent : goal.returns-in-ConfigurationDone-clause-sent
 returns-in-ConfigurationDone-clause-sent c = with_command _ the.ConfigurationDone c.args.command c.args.launched.now c.args.request.now _ c.args.out.now _ c.in-ConfigurationDone.is
-    (moves_so _ c.configure.result c.args.launched.now _ c.configure.new.execution c.args.out.now c.configure.new.out c.configure.ensures.sent refl)
+    (moves_so _ c.respond_configuration_done.result c.args.launched.now _ c.respond_configuration_done.new.execution c.args.out.now c.respond_configuration_done.new.out c.respond_configuration_done.ensures.sent refl)
 
 pub returns-in-Continue-clause-sent : goal.returns-in-Continue-clause-sent
 returns-in-Continue-clause-sent c = with_command _ the.Continue c.args.command c.args.launched.now c.args.request.now _ c.args.out.now _ c.in-Continue.is
@@ -62,7 +62,7 @@ returns-in-Continue-clause-sent c = with_command _ the.Continue c.args.command c
 
 pub returns-in-Pause-clause-sent : goal.returns-in-Pause-clause-sent
 returns-in-Pause-clause-sent c = with_command _ the.Pause c.args.command c.args.launched.now c.args.request.now _ c.args.out.now _ c.in-Pause.is
-    (moves_so _ c.pause.result c.args.launched.now _ c.pause.new.execution c.args.out.now c.pause.new.out c.pause.ensures.sent refl)
+    (moves_so _ c.respond_pause.result c.args.launched.now _ c.respond_pause.new.execution c.args.out.now c.respond_pause.new.out c.respond_pause.ensures.sent refl)
 
 pub returns-in-Next-clause-sent : goal.returns-in-Next-clause-sent
 returns-in-Next-clause-sent c = with_command _ the.Next c.args.command c.args.launched.now c.args.request.now _ c.args.out.now _ c.in-Next.is

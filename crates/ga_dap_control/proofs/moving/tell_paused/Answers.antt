@@ -7,7 +7,7 @@ use Rattle.ga_dap_control.proofs.moving.tell_paused.Goals as goal
 
 pub returns : goal.returns
 returns c = let asked = c.node_or-node.ensures in
-    ok_then c.emit_stopped.result c.emit_stopped.ensures.sent
+    ok_then c.emit_stopped_event.result c.emit_stopped_event.ensures.sent
     (λ sent. (
       bare_success_response c.args.request.now ∷ stopped_message (codes "pause") (codes "pause") c.node_or-node.result.number ∷ [],
       (
@@ -17,5 +17,5 @@ returns c = let asked = c.node_or-node.ensures in
         asked.1,
         ap (λ (z : NodeId). bare_success_response c.args.request.now ∷ stopped_message (codes "pause") (codes "pause") z.number ∷ []) asked.2,
       ),
-      (c.acknowledge.new.self, c.in_ok-acknowledge.ensures.sent, sent_one c.acknowledge.new.self (stopped_message (codes "pause") (codes "pause") c.node_or-node.result.number) c.emit_stopped.new.out sent),
+      (c.acknowledge.new.self, c.in_ok-acknowledge.ensures.sent, sent_one c.acknowledge.new.self (stopped_message (codes "pause") (codes "pause") c.node_or-node.result.number) c.emit_stopped_event.new.out sent),
     ))

@@ -1,5 +1,5 @@
 use Rattle.std.proofs.Common.{◌≡◌, ◌≤◌, true, false, length, sym, subst, arith}
-use Rattle.ga_dap_protocol.specs.Framing.{header_end, IsEitherPrefix, IsFramePrefix, IsContentLength}
+use Rattle.ga_dap_protocol.specs.Framing.{header_terminator, IsOnePrefixOfOther, IsFramePrefix, IsContentLength}
 use Rattle.ga_dap_protocol.proofs.Frames.{whole, is_too_long, is_many, is_no_end, is_part, no_digits, is_zero, not_zero}
 use Rattle.ga_dap_protocol.proofs.framing.front_behind.Goals as goal
 
@@ -26,7 +26,7 @@ pub returns-then-not-agree : goal.returns-then-not-agree
 returns-then-not-agree c =
     let r = c.value_behind.ensures.reads in
     let is : IsContentLength c.value_behind.result.0.now c.in-Some.number = (not_zero (length c.value_behind.result.0.now) c.is_empty.result c.is_empty.ensures c.if-is_empty.false, omega arith, r.1, sym c.in-Some.ensures.value, c.in-Some.ensures.within) in
-    let differ = λ (h : IsEitherPrefix c.value_behind.result.1.now header_end).
+    let differ = λ (h : IsOnePrefixOfOther c.value_behind.result.1.now header_terminator).
     let t : c.agree.result ≡ true = c.agree.ensures.1 h in let f : c.agree.result ≡ false = c.if-not-agree.true in absurd (cc) in
     is_no_end c.args.bytes.now c.value_behind.result.0.now c.value_behind.result.1.now r.0
     (subst (IsContentLength c.value_behind.result.0.now) c.in-Some.ensures.value is) (c.value_behind.ensures.all (omega arith)) differ

@@ -1,7 +1,7 @@
 use Rattle.std.proofs.Common.{List, codes, Some, None, refl, ap, subst}
 use Rattle.serde_json.specs.View.{view}
 use Rattle.ga_node.specs.Record.{NodeRecord}
-use Rattle.ga_dap_queries.specs.Readings.{IsDeadlockStatus}
+use Rattle.ga_dap_queries.specs.Readings.{TellsIfNodeIsDeadlocked}
 use Rattle.ga_dap_queries.specs.Sending.{success_response, refused_response}
 use Rattle.ga_dap_queries.proofs.Sent.{ok_then}
 use Rattle.ga_dap_queries.proofs.readings.respond_exception_info.Goals as goal
@@ -19,7 +19,7 @@ returns-in_ok-body-in-Some-clause-sent c = ok_then c.respond.result c.respond.en
         c.in-Some.ensures,
         (
           c.is_deadlocked-stuck.result,
-          subst (λ (z : List NodeRecord). IsDeadlockStatus z c.in-Some.node.number c.is_deadlocked-stuck.result) c.chip.ensures.value c.is_deadlocked-stuck.ensures,
+          subst (λ (z : List NodeRecord). TellsIfNodeIsDeadlocked z c.in-Some.node.number c.is_deadlocked-stuck.result) c.chip.ensures.value c.is_deadlocked-stuck.ensures,
           ap (success_response c.args.request.now) c.in_ok-body-in-Some.ensures,
         ),
       ),

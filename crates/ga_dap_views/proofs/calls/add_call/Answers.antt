@@ -21,14 +21,14 @@ returns-clause-calls c =
     let items = c.args.calls.now.items in
     let one : Option SlotAddress → OpenCall = λ at. record { step = c.args.step; at = at } in
     c.push.ensures.items
-    ∙ ap (λ (z : Option SlotAddress). items ++ one z ∷ []) c.slot_address_at-at.ensures.spot
+    ∙ ap (λ (z : Option SlotAddress). items ++ one z ∷ []) c.slot_address_of_walked_back_node-at.ensures.spot
     ∙ sym (ap (λ (z : List ℕ). items ++ map (open_call c.args.lab.now c.args.node) z) (put_one c.args.shift c.args.window.place c.args.step (sym c.puts_call.ensures ∙ c.if-not-puts_call.false)))
 
 pub returns-clause-len : goal.returns-clause-len
 returns-clause-len c = omega (arith, c.push.ensures.len, ap length (put_one c.args.shift c.args.window.place 0 (sym c.puts_call.ensures ∙ c.if-not-puts_call.false)))
 
 pub returns-clause-walk : goal.returns-clause-walk
-returns-clause-walk c = has_step_so c.args.lab.now c.args.node (c.args.step - 1) c.slot_address_at-at.new.walk c.slot_address_at-at.ensures.walk
+returns-clause-walk c = has_step_so c.args.lab.now c.args.node (c.args.step - 1) c.slot_address_of_walked_back_node-at.new.walk c.slot_address_of_walked_back_node-at.ensures.walk
 
 pub returns-clause-order : goal.returns-clause-order
-returns-clause-order c = let at = ap (λ (z : NodeAtStep). z.step) c.slot_address_at-at.ensures.walk in omega (arith, at)
+returns-clause-order c = let at = ap (λ (z : NodeAtStep). z.step) c.slot_address_of_walked_back_node-at.ensures.walk in omega (arith, at)

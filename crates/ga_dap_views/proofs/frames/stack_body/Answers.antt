@@ -11,7 +11,7 @@ use Rattle.ga_dap_views.proofs.frames.stack_body.Goals as goal
 pub returns : goal.returns
 returns c =
     let levels = c.levels_asked-levels.result in
-    subst (λ (d : Data). IfOk c.stack_object.result (λ (v : Value). view v ≡ d))
+    subst (λ (d : Data). IfOk c.stack_frames_object.result (λ (v : Value). view v ≡ d))
     (stack_so c.args.file c.args.notes.now c.args.lab.now c.args.node c.args.start c.args.count (length c.args.calls.now + 1) (map view c.in_ok-list.list.items) (range_with_len levels.0 (levels.1 - levels.0))
     (ap (λ (z : List OpenCall). length z + 1) c.requires.calls) c.in_ok-list.ensures c.levels_asked-levels.ensures.places)
-    c.stack_object.ensures
+    c.stack_frames_object.ensures

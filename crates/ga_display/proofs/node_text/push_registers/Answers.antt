@@ -1,12 +1,12 @@
 use Rattle.std.specs.Prelude.{codes}
 use Rattle.std.proofs.Common.{ℕ, List, ◌++◌, ap, ◌∙◌}
 use Rattle.ga_display.specs.Texts.{register_text}
-use Rattle.ga_node.specs.Record.{record_of}
+use Rattle.ga_node.specs.Record.{record_of_node}
 use Rattle.ga_display.proofs.Pieces.{four_pieces}
 use Rattle.ga_display.proofs.node_text.push_registers.Goals as goal
 
 pub returns-clause-text : goal.returns-clause-text
-unfolding record_of
+unfolding record_of_node
 returns-clause-text g c =
     let register : List ℕ → List ℕ → ℕ → List ℕ = λ text name n. text ++ register_text name n in
     four_pieces c.args.out.now.items c.push_register.new.out.items c.push_register-2.new.out.items c.push_register-3.new.out.items c.push_register-4.new.out.items

@@ -33,9 +33,9 @@ pub returns : goal.returns
 returns g c = (
   search rules,
   λ before said h.
-      let done = c.answer_in_wording.ensures.1 before said h in (
+      let done = c.answer_line_in_wording.ensures.1 before said h in (
         done.0,
-        other_turn c.args.lab.now c.args.line.now c.answer_in_wording.new.lab c.answer_in_wording.result done.0 (c.is_no_command.ensures.some c.if-is_no_command.false) done.1,
+        other_turn c.args.lab.now c.args.line.now c.answer_line_in_wording.new.lab c.answer_line_in_wording.result done.0 (c.is_no_command.ensures.some c.if-is_no_command.false) done.1,
         done.2,
       ),
 )

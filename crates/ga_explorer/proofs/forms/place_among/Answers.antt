@@ -1,8 +1,8 @@
 use Rattle.std.proofs.Common.{◌∙◌, ◌+◌, ℕ, Some, ap, sym, arith}
 use Rattle.std.specs.Prelude.{map}
 use Rattle.std.proofs.lemmas.List.{drop_all}
-use Rattle.ga_explorer.specs.Forms.{command_place_from}
-use Rattle.ga_explorer.specs.inner.{entry_of}
+use Rattle.ga_explorer.specs.Forms.{command_index_from_place}
+use Rattle.ga_explorer.specs.inner.{command_entry_of_row}
 use Rattle.ga_explorer.proofs.Finding.{place_here, place_behind}
 use Rattle.ga_explorer.proofs.forms.place_among.Goals as goal
 
@@ -18,5 +18,5 @@ rows-preserved c = record {
 }
 
 pub returns : goal.returns
-unfolding command_place_from
-returns c = sym (ap (λ z. command_place_from c.args.word.now c.rows.row-index (map entry_of z)) (drop_all c.rows.row-index c.args.rows.now (omega arith))) ∙ c.rows.invariant.left
+unfolding command_index_from_place
+returns c = sym (ap (λ z. command_index_from_place c.args.word.now c.rows.row-index (map command_entry_of_row z)) (drop_all c.rows.row-index c.args.rows.now (omega arith))) ∙ c.rows.invariant.left

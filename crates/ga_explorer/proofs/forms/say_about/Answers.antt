@@ -1,7 +1,7 @@
 use Rattle.std.proofs.Common.{rules, ◌++◌, refl}
 use Rattle.ga_text.proofs.WriteLemmas.{truncated_here, truncated_within}
-use Rattle.ga_explorer.specs.Forms.{form_row_text, command_details_text}
-use Rattle.ga_explorer.specs.inner.{entry_of}
+use Rattle.ga_explorer.specs.Forms.{command_row_text, command_details_text}
+use Rattle.ga_explorer.specs.inner.{command_entry_of_row}
 use Rattle.ga_explorer_text.proofs.Saying.{joined_written}
 use Rattle.ga_explorer.proofs.forms.say_about.Goals as goal
 
@@ -10,9 +10,9 @@ returns-in_err-write_help_row g c = (
   search rules,
   λ before said h.
       let row = c.args.row.now in
-      let whole = command_details_text (entry_of row) in
+      let whole = command_details_text (command_entry_of_row row) in
       truncated_here c.from_residual.result _ before (said ++ whole) _ c.from_residual.ensures.0
-      (truncated_within _ before said (form_row_text (entry_of row)) row.more.now whole refl (c.in_err-write_help_row.ensures.1 before said h)),
+      (truncated_within _ before said (command_row_text (command_entry_of_row row)) row.more.now whole refl (c.in_err-write_help_row.ensures.1 before said h)),
 )
 
 pub returns : goal.returns
@@ -20,6 +20,6 @@ returns g c = (
   search rules,
   λ before said h.
       let row = c.args.row.now in
-      joined_written c.write_blocks.result _ before said (form_row_text (entry_of row)) row.more.now _
-      (c.write_blocks.ensures.1 before (said ++ form_row_text (entry_of row)) (c.in_ok-write_help_row.ensures.1 before said h)),
+      joined_written c.write_blocks.result _ before said (command_row_text (command_entry_of_row row)) row.more.now _
+      (c.write_blocks.ensures.1 before (said ++ command_row_text (command_entry_of_row row)) (c.in_ok-write_help_row.ensures.1 before said h)),
 )

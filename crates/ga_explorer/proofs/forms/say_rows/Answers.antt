@@ -1,8 +1,8 @@
 use Rattle.std.proofs.Common.{rules, ℕ, List, ◌++◌, [], refl, arith}
 use Rattle.std.specs.Prelude.{map}
 use Rattle.ga_text.proofs.WriteLemmas.{truncated_here, written_pending}
-use Rattle.ga_explorer.specs.Forms.{form_rows_text}
-use Rattle.ga_explorer.specs.inner.{entry_of}
+use Rattle.ga_explorer.specs.Forms.{command_rows_text}
+use Rattle.ga_explorer.specs.inner.{command_entry_of_row}
 use Rattle.ga_explorer.proofs.Finding.{next_row, no_row}
 use Rattle.ga_explorer_text.proofs.Saying.{line_written, line_truncated, all_said}
 use Rattle.ga_explorer.proofs.forms.say_rows.Goals as goal
@@ -15,7 +15,7 @@ returns-in_err-write_help_row g c = (
   search rules,
   λ before said h.
       let rows = c.args.rows.now in
-      let whole : List ℕ = form_rows_text (map entry_of rows) in
+      let whole : List ℕ = command_rows_text (map command_entry_of_row rows) in
       let done = c.rows.invariant.1 before said h in (
         whole,
         refl,
@@ -32,7 +32,7 @@ rows-preserved g c = (
   λ before said h.
       let rows = c.args.rows.now in
       let done = c.rows.invariant.1 before said h in
-      line_written _ before said (form_rows_text (map entry_of rows)) _ _ _ done.front _
+      line_written _ before said (command_rows_text (map command_entry_of_row rows)) _ _ _ done.front _
       (next_row rows c.rows.row-index _ (omega arith)) done.splits
       (c.in_ok-write_help_row.ensures.1 before (said ++ done.front) done.is_said),
 )
@@ -42,7 +42,7 @@ returns g c = (
   search rules,
   λ before said h.
       let rows = c.args.rows.now in
-      let whole : List ℕ = form_rows_text (map entry_of rows) in (
+      let whole : List ℕ = command_rows_text (map command_entry_of_row rows) in (
         whole,
         refl,
         all_said _ before said whole _ _ (no_row rows c.rows.row-index (omega arith)) (c.rows.invariant.1 before said h),

@@ -3,7 +3,7 @@ use Rattle.std.specs.Prelude.{Option, Result, Ok, Err}
 use Rattle.ga_text.specs.declared.output.WriteError.{WriteError}
 use Rattle.ga_console.specs.Run.{WritesImageRefusal}
 use Rattle.ga_console.specs.declared.commands.CommandsEnd.{CommandsEnd}
-use Rattle.ga_console.specs.declared.commands.CommandsEnd.TheVariants.{Ended, Quit, Refused, Past, ReadFailed}
+use Rattle.ga_console.specs.declared.commands.CommandsEnd.TheVariants.{InputEnded, Quit, Refused, PastLimit, ReadFailed}
 use Rattle.ga_console.specs.declared.run.Status.{Status}
 use Rattle.ga_console.specs.declared.run.Status.TheVariants.{CommandRefused}
 use Rattle.ga_explorer.specs.Opening.{IsUnopenedSession}
@@ -14,10 +14,10 @@ use Rattle.ga_explorer.proofs.laws.only_strict_sessions_end_at_a_refusal.Goals a
 
 never_served : (prompts : Bool) (chip : Option (List ℕ)) (limit : ℕ) (read rest written : List ℕ) (ending : Result CommandsEnd WriteError)
     → CommandRefused ≡ session_status false ending → IsServedExplorerSession prompts false chip limit read rest written ending → ⊥
-never_served prompts chip limit read rest written (Ok Ended) e s = cc
+never_served prompts chip limit read rest written (Ok InputEnded) e s = cc
 never_served prompts chip limit read rest written (Ok Quit) e s = cc
 never_served prompts chip limit read rest written (Ok (Refused number)) e s = true≢false (sym s.serves.answers.7.1)
-never_served prompts chip limit read rest written (Ok (Past number)) e s = cc
+never_served prompts chip limit read rest written (Ok (PastLimit number)) e s = cc
 never_served prompts chip limit read rest written (Ok ReadFailed) e s = cc
 never_served prompts chip limit read rest written (Err failed) e s = cc
 

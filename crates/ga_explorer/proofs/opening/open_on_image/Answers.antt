@@ -1,5 +1,5 @@
 use Rattle.std.proofs.Common.{map, sym, ◌∙◌, ap, subst}
-use Rattle.ga_lab.specs.Machine.{State}
+use Rattle.ga_lab.specs.Machine.{MachineState}
 use Rattle.ga_debug_info.specs.declared.notes.DebugInfo.{DebugInfo}
 use Rattle.ga_console.specs.Run.{IsOpenedOnImage}
 use Rattle.ga_image.specs.Given.{ranges_of_given_words}
@@ -12,7 +12,7 @@ use Rattle.ga_explorer.proofs.opening.open_on_image.Goals as goal
 pub returns-in-Ok-clause-ok : goal.returns-in-Ok-clause-ok
 returns-in-Ok-clause-ok g c = record {
   notes = c.with_words.result;
-  opens = subst (λ (s : State). IsOpenedOnImage c.args.image.items c.args.limit s) (sym (ap (λ (begun : ExplorerState). begun.lab) c.of.ensures)) c.in-Ok.ensures.ok;
+  opens = subst (λ (s : MachineState). IsOpenedOnImage c.args.image.items c.args.limit s) (sym (ap (λ (begun : ExplorerState). begun.lab) c.of.ensures)) c.in-Ok.ensures.ok;
   noted = ap (λ (begun : ExplorerState). begun.notes) c.of.ensures;
   notes_of = let known = c.in-Some.ensures in record {
     chip = known.chip;

@@ -4,7 +4,7 @@ use Rattle.ga_text.specs.declared.output.WriteError.{WriteError}
 use Rattle.ga_text.proofs.WriteLemmas.{at_err}
 use Rattle.ga_console.specs.Session.{ServesCommands, IsWholeOrPrefixOnWriteError}
 use Rattle.ga_console.specs.declared.commands.CommandsEnd.{CommandsEnd}
-use Rattle.ga_explorer.specs.Session.{prompt, AnswersWithPrompt, AnswersAndEndsSession}
+use Rattle.ga_explorer.specs.Session.{prompt_text, AnswersWithPrompt, AnswersAndEndsSession}
 use Rattle.ga_explorer.proofs.Prompted.{serves_prompted, nothing_served, written_on, prefix_on}
 use Rattle.ga_explorer.proofs.prompting.serve_explorer.Goals as goal
 
@@ -13,7 +13,7 @@ returns-in_err-write_prompt-clause-serves g c = λ left before said known held.
     let told = c.in_err-write_prompt.ensures.1 before said held in
     let read : List ℕ = c.args.input.now.bytes in
     let session = c.args.session.now in
-    let first : List ℕ = prompt session.is_prompted in (
+    let first : List ℕ = prompt_text session.is_prompted in (
       read,
       left,
       [],
@@ -33,7 +33,7 @@ pub returns-clause-serves : goal.returns-clause-serves
 returns-clause-serves g c = λ left before said known held.
     let told = c.in_ok-write_prompt.ensures.1 before said held in
     let session = c.args.session.now in
-    let first : List ℕ = prompt session.is_prompted in
+    let first : List ℕ = prompt_text session.is_prompted in
     let done = c.serve_commands.ensures.serves left before (said ++ first) known told in (
       done.0,
       done.1,

@@ -2,12 +2,12 @@ use Rattle.std.proofs.Common.{◌≡◌, [], ◌++◌, Some, ap, refl, true, rul
 use Rattle.std.specs.Prelude.{Result}
 use Rattle.ga_text.specs.declared.output.WriteError.{WriteError}
 use Rattle.ga_text.proofs.WriteLemmas.{at_err, truncated_here, truncated_more, said_cut, written_pending}
-use Rattle.ga_console.specs.inner.Run.{AnswersOrEnds}
+use Rattle.ga_console.specs.inner.Run.{AnswersLineOrEnds}
 use Rattle.ga_console.specs.declared.responder.LineAction.{LineAction}
 use Rattle.ga_console.proofs.RunLemmas.{written_fresh}
 use Rattle.ga_console.proofs.Ending.{only_answers}
 use Rattle.ga_explorer.specs.Answers.{AnswersExplorerLine}
-use Rattle.ga_explorer.specs.Session.{AnswersAndContinues, AnswersAndEndsSession}
+use Rattle.ga_explorer.specs.Session.{AnswersLineAndContinues, AnswersAndEndsSession}
 use Rattle.ga_explorer.proofs.StrictLemmas.{line_fails, line_result}
 use Rattle.ga_explorer.proofs.strict.answer_strictly.Goals as goal
 
@@ -20,7 +20,7 @@ returns-in_err-answer-clause-answered g c = (
       let begun : c.new-held.result.stream.now.items ≡ [] = cc in
       let done = c.in_err-answer.ensures.1 [] [] (written_fresh _ [] [] _ (ap Some begun) c.new-held.ensures.nothing) in (
         done.0,
-        at_err (λ (r : Result LineAction WriteError). AnswersOrEnds (AnswersAndContinues true) (AnswersAndEndsSession true) c.args.explorer.now c.args.line.now c.answer.new.self r done.0) c.from_residual.result c.from_residual.ensures.0
+        at_err (λ (r : Result LineAction WriteError). AnswersLineOrEnds (AnswersLineAndContinues true) (AnswersAndEndsSession true) c.args.explorer.now c.args.line.now c.answer.new.self r done.0) c.from_residual.result c.from_residual.ensures.0
             (λ why. line_fails c.args.explorer.now c.answer.new.self c.args.line.now done.0 (only_answers AnswersExplorerLine c.args.explorer.now c.answer.new.self done.0 c.args.line.now done.1)),
         truncated_here c.from_residual.result _ before (said ++ done.0) _ c.from_residual.ensures.0 (truncated_more _ before said done.0 (said_cut _ before said _ h)),
       ),

@@ -2,26 +2,26 @@ use Rattle.std.proofs.Common.{◌≡◌, [], ◌++◌, Some, ap, true, rules}
 use Rattle.std.specs.Prelude.{Result}
 use Rattle.ga_text.specs.declared.output.WriteError.{WriteError}
 use Rattle.ga_text.proofs.WriteLemmas.{at_err, truncated_here, truncated_more, said_cut, written_pending}
-use Rattle.ga_console.specs.inner.Run.{ObeysCommand}
+use Rattle.ga_console.specs.inner.Run.{AnswersCommandOrEnds}
 use Rattle.ga_console.specs.declared.responder.LineAction.{LineAction}
 use Rattle.ga_console.proofs.RunLemmas.{written_fresh}
 use Rattle.ga_console.proofs.Ending.{only_obeys}
 use Rattle.ga_explorer.specs.Answers.{AnswersExplorerLine}
-use Rattle.ga_explorer.specs.Session.{AnswersAndContinues, AnswersAndEndsSession}
+use Rattle.ga_explorer.specs.Session.{AnswersLineAndContinues, AnswersAndEndsSession}
 use Rattle.ga_explorer.proofs.StrictLemmas.{command_fails, command_result}
 use Rattle.ga_explorer.proofs.strict.obey_strictly.Goals as goal
 
-pub returns-in_err-obey : goal.returns-in_err-obey
-returns-in_err-obey g c = (
+pub returns-in_err-obey_debugger_command : goal.returns-in_err-obey_debugger_command
+returns-in_err-obey_debugger_command g c = (
   search rules,
   λ before said h.
       let stream = c.new-held.ensures.stream in
       let empty = c.new-long.ensures.items in
       let begun : c.new-held.result.stream.now.items ≡ [] = cc in
-      let done = c.in_err-obey.ensures.1 [] [] (written_fresh _ [] [] _ (ap Some begun) c.new-held.ensures.nothing) in (
+      let done = c.in_err-obey_debugger_command.ensures.1 [] [] (written_fresh _ [] [] _ (ap Some begun) c.new-held.ensures.nothing) in (
         done.0,
-        at_err (λ (r : Result LineAction WriteError). ObeysCommand (AnswersAndContinues true) (AnswersAndEndsSession true) c.args.explorer.now c.args.command c.obey.new.self r done.0) c.from_residual.result c.from_residual.ensures.0
-            (λ why. command_fails c.args.explorer.now c.obey.new.self c.args.command done.0 (only_obeys AnswersExplorerLine c.args.explorer.now c.obey.new.self done.0 c.args.command done.1)),
+        at_err (λ (r : Result LineAction WriteError). AnswersCommandOrEnds (AnswersLineAndContinues true) (AnswersAndEndsSession true) c.args.explorer.now c.args.command c.obey_debugger_command.new.self r done.0) c.from_residual.result c.from_residual.ensures.0
+            (λ why. command_fails c.args.explorer.now c.obey_debugger_command.new.self c.args.command done.0 (only_obeys AnswersExplorerLine c.args.explorer.now c.obey_debugger_command.new.self done.0 c.args.command done.1)),
         truncated_here c.from_residual.result _ before (said ++ done.0) _ c.from_residual.ensures.0 (truncated_more _ before said done.0 (said_cut _ before said _ h)),
       ),
 )
@@ -33,7 +33,7 @@ returns-in-Quit g c = (
       let stream = c.new-held.ensures.stream in
       let empty = c.new-long.ensures.items in
       let begun : c.new-held.result.stream.now.items ≡ [] = cc in
-      let done = rw c.in-Quit.is at (c.in_ok-obey.ensures.1 [] [] (written_fresh _ [] [] _ (ap Some begun) c.new-held.ensures.nothing)) in
+      let done = rw c.in-Quit.is at (c.in_ok-obey_debugger_command.ensures.1 [] [] (written_fresh _ [] [] _ (ap Some begun) c.new-held.ensures.nothing)) in
       ([], done.1, written_pending _ before said _ h),
 )
 
@@ -44,7 +44,7 @@ returns-in-Refused g c = (
       let stream = c.new-held.ensures.stream in
       let empty = c.new-long.ensures.items in
       let begun : c.new-held.result.stream.now.items ≡ [] = cc in
-      let done = rw c.in-Refused.is at (c.in_ok-obey.ensures.1 [] [] (written_fresh _ [] [] _ (ap Some begun) c.new-held.ensures.nothing)) in
+      let done = rw c.in-Refused.is at (c.in_ok-obey_debugger_command.ensures.1 [] [] (written_fresh _ [] [] _ (ap Some begun) c.new-held.ensures.nothing)) in
       ([], λ line short spelled. absurd (done.1 line short spelled), written_pending _ before said _ h),
 )
 
@@ -53,12 +53,12 @@ returns g c =
     let stream = c.new-held.ensures.stream in
     let empty = c.new-long.ensures.items in
     let begun : c.new-held.result.stream.now.items ≡ [] = cc in
-    let done = rw c.in-Answered.is at (c.in_ok-obey.ensures.1 [] [] (written_fresh _ [] [] _ (ap Some begun) c.new-held.ensures.nothing)) in
+    let done = rw c.in-Answered.is at (c.in_ok-obey_debugger_command.ensures.1 [] [] (written_fresh _ [] [] _ (ap Some begun) c.new-held.ensures.nothing)) in
     let passed = c.pass_on.ensures.answer done.0 done.2 in (
       passed.0.0,
       λ before said h. (
         done.0,
-        command_result c.args.explorer.now c.obey.new.self c.args.command done.0 done.1 c.pass_on.result passed.1,
+        command_result c.args.explorer.now c.obey_debugger_command.new.self c.args.command done.0 done.1 c.pass_on.result passed.1,
         passed.0.1 before said h,
       ),
     )

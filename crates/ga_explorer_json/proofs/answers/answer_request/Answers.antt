@@ -1,7 +1,7 @@
 use Rattle.std.proofs.Common.{refl}
 use Rattle.ga_explorer.specs.inner.{explorer_state}
 use Rattle.ga_explorer_json.specs.Answers.{AnswersCommandJson, AnswersLineRequest}
-use Rattle.ga_explorer_json.specs.Texts.{long_line_json, syntax_json}
+use Rattle.ga_explorer_json.specs.Texts.{long_line_refusal_json, syntax_refusal_of_line}
 use Rattle.ga_explorer_json.specs.declared.answers.LineRequest.TheVariants as request
 use Rattle.ga_json.specs.Compact.{json_line}
 use Rattle.std.specs.Prelude.{codes}
@@ -24,16 +24,16 @@ returns-in-Debug g c =
     (λ text. AnswersCommandJson c.args.lab.now c.in-Debug.command text c.obey_for_json.new.lab)
     (λ text. AnswersLineRequest e c.args.line.now (request.Debug c.in-Debug.command) text now) (λ text h. (h, refl)) c.obey_for_json.ensures)
 
-pub returns-in-Long : goal.returns-in-Long
-returns-in-Long g c =
+pub returns-in-TooLongLine : goal.returns-in-TooLongLine
+returns-in-TooLongLine g c =
     let e = explorer_state c.args.lab.now c.args.notes.now in
-    requested g.W.Write.contents c.write_long_line_json.result c.args.writer.now c.write_long_line_json.new.writer e c.args.line.now c.args.request request.Long e c.in-Long.is
+    requested g.W.Write.contents c.write_long_line_json.result c.args.writer.now c.write_long_line_json.new.writer e c.args.line.now c.args.request request.TooLongLine e c.in-TooLongLine.is
     (exact_as g.W.Write.contents c.write_long_line_json.result c.args.writer.now c.write_long_line_json.new.writer
-    (λ text. AnswersLineRequest e c.args.line.now request.Long text e) (json_line long_line_json) (refl, refl) c.write_long_line_json.ensures)
+    (λ text. AnswersLineRequest e c.args.line.now request.TooLongLine text e) (json_line long_line_refusal_json) (refl, refl) c.write_long_line_json.ensures)
 
 pub returns-in-Unknown : goal.returns-in-Unknown
 returns-in-Unknown g c =
     let e = explorer_state c.args.lab.now c.args.notes.now in
     requested g.W.Write.contents c.write_syntax_json.result c.args.writer.now c.write_syntax_json.new.writer e c.args.line.now c.args.request request.Unknown e c.in-Unknown.is
     (exact_as g.W.Write.contents c.write_syntax_json.result c.args.writer.now c.write_syntax_json.new.writer
-    (λ text. AnswersLineRequest e c.args.line.now request.Unknown text e) (json_line (syntax_json c.args.line.now)) (refl, refl) c.write_syntax_json.ensures)
+    (λ text. AnswersLineRequest e c.args.line.now request.Unknown text e) (json_line (syntax_refusal_of_line c.args.line.now)) (refl, refl) c.write_syntax_json.ensures)

@@ -3,12 +3,12 @@ use Rattle.ga_event.specs.Told.{count_steps}
 use Rattle.ga_lab.specs.Machine.{undo_answer, rewind_answer}
 use Rattle.ga_text.proofs.WriteLemmas.{written_pending}
 use Rattle.ga_json.specs.Compact.{json_line}
-use Rattle.ga_console.specs.declared.command.Command.TheVariants.{Step, Back, Rewind, Node, Memory, Trace, Why, Count, Dump, Quit}
+use Rattle.ga_console.specs.declared.command.DebuggerCommand.TheVariants.{Step, Back, Rewind, Node, Memory, Trace, Why, Count, Dump, Quit}
 use Rattle.ga_explorer_json.specs.Rows.{IsJsonLine}
 use Rattle.ga_explorer_json.specs.Answers.{AnswersCommandJson}
 use Rattle.ga_explorer_json.specs.Changes.{undo_json, rewind_json}
 use Rattle.ga_explorer_json.specs.NodeState.{node_json}
-use Rattle.ga_explorer_json.specs.Readings.{memory_word_json, counts_json}
+use Rattle.ga_explorer_json.specs.Readings.{memory_word_json, history_counts_json}
 use Rattle.ga_explorer_json.specs.Steps.{IsTraceJson, IsWhyJson, IsDumpJson}
 use Rattle.ga_explorer_json.proofs.Answering.{some_as, exact_as, commanded}
 use Rattle.ga_explorer_json.proofs.answers.obey_for_json.Goals as goal
@@ -52,14 +52,14 @@ returns-in-Trace g c =
 pub returns-in-Why : goal.returns-in-Why
 returns-in-Why g c =
     let s = c.args.lab.now in
-    commanded g.W.Write.contents c.write_why_json.result c.args.writer.now c.write_why_json.new.writer s c.args.command (Why c.in-Why.from c.in-Why.from_step c.in-Why.to c.in-Why.to_step) s c.in-Why.is
-    (some_as g.W.Write.contents c.write_why_json.result c.args.writer.now c.write_why_json.new.writer (IsJsonLine (IsWhyJson s c.in-Why.from c.in-Why.from_step c.in-Why.to c.in-Why.to_step)) (λ text. AnswersCommandJson s (Why c.in-Why.from c.in-Why.from_step c.in-Why.to c.in-Why.to_step) text s) (λ text h. (h, refl)) c.write_why_json.ensures)
+    commanded g.W.Write.contents c.write_chain_json.result c.args.writer.now c.write_chain_json.new.writer s c.args.command (Why c.in-Why.from c.in-Why.from_step c.in-Why.to c.in-Why.to_step) s c.in-Why.is
+    (some_as g.W.Write.contents c.write_chain_json.result c.args.writer.now c.write_chain_json.new.writer (IsJsonLine (IsWhyJson s c.in-Why.from c.in-Why.from_step c.in-Why.to c.in-Why.to_step)) (λ text. AnswersCommandJson s (Why c.in-Why.from c.in-Why.from_step c.in-Why.to c.in-Why.to_step) text s) (λ text h. (h, refl)) c.write_chain_json.ensures)
 
 pub returns-in-Count : goal.returns-in-Count
 returns-in-Count g c =
     let s = c.args.lab.now in
-    commanded g.W.Write.contents c.write_counts_json.result c.args.writer.now c.write_counts_json.new.writer s c.args.command Count s c.in-Count.is
-    (exact_as g.W.Write.contents c.write_counts_json.result c.args.writer.now c.write_counts_json.new.writer (λ text. AnswersCommandJson s Count text s) (json_line (counts_json s)) (refl, refl) c.write_counts_json.ensures)
+    commanded g.W.Write.contents c.write_event_counts_json.result c.args.writer.now c.write_event_counts_json.new.writer s c.args.command Count s c.in-Count.is
+    (exact_as g.W.Write.contents c.write_event_counts_json.result c.args.writer.now c.write_event_counts_json.new.writer (λ text. AnswersCommandJson s Count text s) (json_line (history_counts_json s)) (refl, refl) c.write_event_counts_json.ensures)
 
 pub returns-in-Dump : goal.returns-in-Dump
 returns-in-Dump g c =

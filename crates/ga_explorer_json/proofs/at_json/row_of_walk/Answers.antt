@@ -1,6 +1,6 @@
 use Rattle.std.proofs.Common.{Some, List, ◌++◌, ap, ◌∙◌}
 use Rattle.std.specs.Prelude.{option_map}
-use Rattle.ga_node.specs.Record.{NodeRecord, record_of}
+use Rattle.ga_node.specs.Record.{NodeRecord, record_of_node}
 use Rattle.ga_provenance.specs.Origins.{node_after_steps}
 use Rattle.ga_provenance.proofs.Made.{stood_of}
 use Rattle.ga_json.specs.Fields.{NamedValue, json_object}
@@ -15,9 +15,9 @@ returns-in-Some c =
     let n = node.number in
     let step = c.args.step in
     let made = c.in-Some.made in
-    let after = stood_of s c.args.node c.args.there.now step (record_of c.node.result.now) c.requires.walk c.requires.within c.node.ensures in
+    let after = stood_of s c.args.node c.args.there.now step (record_of_node c.node.result.now) c.requires.walk c.requires.within c.node.ensures in
     ap Some c.step_row.ensures
-    ∙ ap (λ (z : List NamedValue). Some (json_object (step_fields step (record_of c.node.result.now) made ++ z))) c.step_source-source.ensures
+    ∙ ap (λ (z : List NamedValue). Some (json_object (step_fields step (record_of_node c.node.result.now) made ++ z))) c.step_source-source.ensures
     ∙ ap (λ (z : NodeRecord). Some (numbered_step_json notes s node step z made)) after
     ∙ ap (option_map (numbered_step_json notes s node step (node_after_steps s n step))) c.in-Some.ensures
 

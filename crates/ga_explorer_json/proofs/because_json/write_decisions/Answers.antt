@@ -1,6 +1,6 @@
 use Rattle.std.proofs.Common.{◌-◌, ap, ◌∙◌}
 use Rattle.ga_lab.specs.Machine.{NodeAtStep}
-use Rattle.ga_explorer_json.specs.Because.{decision_rows, because_fields}
+use Rattle.ga_explorer_json.specs.Because.{decision_rows, decisions_head_fields}
 use Rattle.ga_explorer_json.proofs.Writing.{report_as}
 use Rattle.ga_explorer_json.proofs.because_json.write_decisions.Goals as goal
 
@@ -11,7 +11,7 @@ returns g c =
     let node = c.args.node in
     let most = c.args.most in
     let found = c.before-decisions.result in
-    report_as g.W.Write.contents c.write_report.result c.args.writer.now c.write_report.new.writer c.because_fields-head.result
-    (because_fields node c.args.step) (decision_rows notes s node most found.step) (decision_rows notes s node most (c.args.step - 1)) c.because_fields-head.ensures
+    report_as g.W.Write.contents c.write_report.result c.args.writer.now c.write_report.new.writer c.decisions_head_fields-head.result
+    (decisions_head_fields node c.args.step) (decision_rows notes s node most found.step) (decision_rows notes s node most (c.args.step - 1)) c.decisions_head_fields-head.ensures
     (ap (λ (z : NodeAtStep). decision_rows notes s node most z.step) c.before-decisions.ensures
-    ∙ ap (λ (z : NodeAtStep). decision_rows notes s node most (z.step - 1)) c.walk-near.ensures) c.write_report.ensures
+    ∙ ap (λ (z : NodeAtStep). decision_rows notes s node most (z.step - 1)) c.walk_node_from_step-near.ensures) c.write_report.ensures

@@ -2,7 +2,7 @@ use Rattle.std.proofs.Common.{◌≡◌, ℕ, List, [], ◌∙◌, subst}
 use Rattle.std.specs.Prelude.{IfOk}
 use Rattle.ga_text.specs.Output.{WritesExactly}
 use Rattle.ga_explorer.proofs.StrictLemmas.{held_long}
-use Rattle.ga_explorer_json.specs.inner.{turn_after}
+use Rattle.ga_explorer_json.specs.inner.{json_action_after_answer}
 use Rattle.ga_explorer_json.proofs.responder.pass_on.Goals as goal
 
 pub returns : goal.returns
@@ -11,5 +11,5 @@ returns g c = λ answer h.
     let same : c.as_slice-2.result.now ≡ answer =
     c.as_slice-2.ensures.value ∙ held_long c.flush.new.self.stream.now.items answer c.flush.new.self.pending.items flushed c.in_ok-flush.ensures.sent in
     let P : List ℕ → Type 0 = λ t. WritesExactly c.write_answer-2.result t g.W.Write.contents c.args.writer.now c.write_answer-2.new.writer
-    × IfOk c.write_answer-2.result (λ turn. turn ≡ turn_after c.args.is_strict t) in
+    × IfOk c.write_answer-2.result (λ turn. turn ≡ json_action_after_answer c.args.is_strict t) in
     subst P same (c.write_answer-2.ensures.written, c.write_answer-2.ensures.turn)

@@ -5,7 +5,7 @@ use Rattle.ga_text.proofs.WriteLemmas.{at_err, truncated_here, truncated_more, s
 use Rattle.ga_console.specs.declared.responder.LineAction.{LineAction}
 use Rattle.ga_console.proofs.RunLemmas.{written_fresh}
 use Rattle.ga_explorer.specs.inner.{explorer_state}
-use Rattle.ga_explorer_json.specs.inner.{Responds}
+use Rattle.ga_explorer_json.specs.inner.{RespondsToLineRequest}
 use Rattle.ga_explorer_json.proofs.Turns.{responded}
 use Rattle.ga_explorer_json.proofs.responder.respond.Goals as goal
 
@@ -20,7 +20,7 @@ returns-in_err-answer_request g c = (
       let begun : c.new-held.result.stream.now.items ≡ [] = cc in
       let done = c.in_err-answer_request.ensures.1 [] [] (written_fresh _ [] [] _ (ap Some begun) c.new-held.ensures.nothing) in (
         done.0,
-        at_err (λ (r : Result LineAction WriteError). Responds c.args.is_strict e c.args.line.now c.args.request now r done.0) c.from_residual.result c.from_residual.ensures.0 (λ why. done.1),
+        at_err (λ (r : Result LineAction WriteError). RespondsToLineRequest c.args.is_strict e c.args.line.now c.args.request now r done.0) c.from_residual.result c.from_residual.ensures.0 (λ why. done.1),
         truncated_here c.from_residual.result _ before (said ++ done.0) _ c.from_residual.ensures.0 (truncated_more _ before said done.0 (said_cut _ before said _ h)),
       ),
 )

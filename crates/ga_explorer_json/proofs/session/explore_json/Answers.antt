@@ -1,10 +1,10 @@
 use Rattle.std.proofs.Common.{rules, Bool, length, ℕ, ◌-◌, List, [], ◌++◌, refl, Some, sym, ap, subst, ◌∙◌, append_assoc}
 use Rattle.std.proofs.lemmas.List.{append-nil}
-use Rattle.ga_console.specs.Session.{ServesCommandsBy}
+use Rattle.ga_console.specs.Session.{ServesCommandsWithLimitRefusal}
 use Rattle.ga_console.proofs.RunLemmas.{written_fresh}
 use Rattle.ga_explorer.specs.Opening.{IsTextBeforeCommands, ExplorerState}
 use Rattle.ga_explorer.specs.inner.{explorer_state}
-use Rattle.ga_explorer_json.specs.Session.{AnswersJsonAndContinues, AnswersJsonAndEndsSession, limit_refusal_line}
+use Rattle.ga_explorer_json.specs.Session.{AnswersJsonAndContinues, AnswersJsonAndEndsSession, long_input_refusal_line}
 use Rattle.ga_explorer_json.specs.Session.RunsJsonExplorer.{served, unbegun}
 use Rattle.ga_explorer_json.proofs.session.explore_json.Goals as goal
 
@@ -18,7 +18,7 @@ returns-in-Ok g c = λ left before known held.
     let session = c.serve_objects-ending.new.session in
     let last = explorer_state session.lab session.notes in
     let Q : Bool → ExplorerState → ℕ → Type 0 = λ b e n.
-    ServesCommandsBy limit_refusal_line (AnswersJsonAndContinues b) (AnswersJsonAndEndsSession b) (16777216 - n) e done.0 done.1 done.2 last c.serve_objects-ending.result in
+    ServesCommandsWithLimitRefusal long_input_refusal_line (AnswersJsonAndContinues b) (AnswersJsonAndEndsSession b) (16777216 - n) e done.0 done.1 done.2 last c.serve_objects-ending.result in
     let first = c.new-session.result in
     let serves = subst (λ n. Q first.is_strict (explorer_state first.lab first.notes) n) begun.4.3 done.7 in
     let served_here = subst (λ b. Q b c.in-Ok.begun (length text)) c.new-session.ensures.strict (subst (λ e. Q first.is_strict e (length text)) c.new-session.ensures.explorer serves) in (
@@ -28,7 +28,7 @@ returns-in-Ok g c = λ left before known held.
       begun.4.2 ∙ ap (λ (l : List ℕ). text ++ l) done.4 ∙ sym (append_assoc text done.0 done.1),
       done.5,
       search rules,
-      served c.serve_objects-ending.result c.end_session.ensures (record {
+      served c.serve_objects-ending.result c.report_session_end_status.ensures (record {
         text = text;
         commands = done.0;
         begun = c.in-Ok.begun;

@@ -3,7 +3,7 @@ use Rattle.ga_text.proofs.WriteLemmas.{truncated_here, truncated_more, said_cut}
 use Rattle.ga_json.specs.Compact.{json_line}
 use Rattle.ga_console.proofs.RunLemmas.{written_fresh}
 use Rattle.ga_explorer.specs.inner.{explorer_state}
-use Rattle.ga_explorer_json.specs.Texts.{text_answer_json, IsQueryText}
+use Rattle.ga_explorer_json.specs.Texts.{text_answer_json, IsTextAnswerOfQuery}
 use Rattle.ga_explorer_json.proofs.Writing.{line_of}
 use Rattle.ga_explorer.proofs.StrictLemmas.{held_long}
 use Rattle.ga_explorer_json.proofs.text_json.write_query_text.Goals as goal
@@ -50,6 +50,6 @@ returns-clause-said g c =
     let flushed = c.in_ok-flush.ensures.said.1 [] done.0 done.2 in
     let same : c.as_slice.result.now ≡ done.0 =
     c.as_slice.ensures.value ∙ held_long c.flush.new.self.stream.now.items done.0 c.flush.new.self.pending.items flushed c.in_ok-flush.ensures.sent in
-    line_of g.W.Write.contents c.write_text_answer.result c.args.writer.now c.write_text_answer.new.writer (IsQueryText c.args.command.now e c.args.asked)
+    line_of g.W.Write.contents c.write_text_answer.result c.args.writer.now c.write_text_answer.new.writer (IsTextAnswerOfQuery c.args.command.now e c.args.asked)
     (text_answer_json c.args.command.now c.as_slice.result.now)
     (done.0, done.1, ap (text_answer_json c.args.command.now) same) c.write_text_answer.ensures

@@ -3,7 +3,7 @@ use Rattle.std.specs.Prelude.{map}
 use Rattle.ga_json.specs.Values.{no_items}
 use Rattle.ga_json.specs.Fields.{NamedValue, named_field_value}
 use Rattle.ga_json.specs.declared.field.Field.{Field}
-use Rattle.ga_explorer_json.specs.Whence.{no_value_fields, whence_fields}
+use Rattle.ga_explorer_json.specs.Whence.{null_part_word_fields, provenance_head_fields}
 use Rattle.ga_explorer_json.proofs.Writing.{report_as}
 use Rattle.ga_explorer_json.proofs.whence_json.write_no_lines.Goals as goal
 
@@ -13,7 +13,7 @@ returns g c =
     let notes = query.notes.now in
     let s = c.args.lab.now in
     report_as g.W.Write.contents c.write_report.result c.args.writer.now c.write_report.new.writer c.as_slice.result.now
-    (whence_fields notes s query.node query.step query.first no_value_fields None) no_items no_items
+    (provenance_head_fields notes s query.node query.step query.first null_part_word_fields None) no_items no_items
     (ap (λ (z : List Field). map named_field_value z) c.as_slice.ensures.value
     ∙ c.query_row-head.ensures
-    ∙ ap (λ (z : List NamedValue). whence_fields notes s query.node query.step query.first z None) c.no_value_fields.ensures) refl c.write_report.ensures
+    ∙ ap (λ (z : List NamedValue). provenance_head_fields notes s query.node query.step query.first z None) c.null_part_word_fields.ensures) refl c.write_report.ensures

@@ -1,20 +1,20 @@
 use Rattle.std.specs.Prelude.{codes}
 use Rattle.std.proofs.Common.{ℕ, List, ◌++◌, ap, ◌∙◌}
 use Rattle.ga_display.specs.Texts.{register_text}
-use Rattle.ga_node.specs.Record.{record_of}
+use Rattle.ga_node.specs.Record.{record_of_node}
 use Rattle.ga_display.proofs.Pieces.{six_pieces}
 use Rattle.ga_explorer_text.proofs.passed_text.push_behind.Goals as goal
 
 pub returns-clause-text : goal.returns-clause-text
-unfolding record_of
+unfolding record_of_node
 returns-clause-text c =
     let register : List ℕ → List ℕ → ℕ → List ℕ = λ text name n. text ++ register_text name n in
     six_pieces c.args.out.now.items c.push_register.new.out.items c.push_register-2.new.out.items c.push_register-3.new.out.items c.push_register-4.new.out.items
     c.push_register-5.new.out.items c.push_register-6.new.out.items
     _ _ _ _ _ _
-    (c.push_register.ensures.text ∙ ap (register c.args.out.now.items (codes "t")) c.d.ensures.value)
-    (c.push_register-2.ensures.text ∙ ap (register c.push_register.new.out.items (codes "s")) c.d-2.ensures.value)
-    (c.push_register-3.ensures.text ∙ ap (register c.push_register-2.new.out.items (codes "r")) c.r.ensures.value)
+    (c.push_register.ensures.text ∙ ap (register c.args.out.now.items (codes "t")) c.word_of_data_stack.ensures.value)
+    (c.push_register-2.ensures.text ∙ ap (register c.push_register.new.out.items (codes "s")) c.word_of_data_stack-2.ensures.value)
+    (c.push_register-3.ensures.text ∙ ap (register c.push_register-2.new.out.items (codes "r")) c.word_of_return_stack.ensures.value)
     (c.push_register-4.ensures.text ∙ ap (register c.push_register-3.new.out.items (codes "a")) c.get.ensures.value)
     (c.push_register-5.ensures.text ∙ ap (register c.push_register-4.new.out.items (codes "b")) c.get-2.ensures.value)
     (c.push_register-6.ensures.text ∙ ap (register c.push_register-5.new.out.items (codes "p")) c.get-3.ensures.value)

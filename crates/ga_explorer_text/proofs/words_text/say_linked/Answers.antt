@@ -1,8 +1,8 @@
 use Rattle.std.proofs.Common.{rules, ◌≡◌, ℕ, List, ◌++◌, length, refl, sym, ap, ◌∙◌, arith}
 use Rattle.std.specs.Prelude.{flat_map}
 use Rattle.ga_text.proofs.WriteLemmas.{truncated_here, truncated_within}
-use Rattle.ga_scheduler.specs.Words.{link_transfers, transfers_left}
-use Rattle.ga_explorer_text.specs.Texts.{transfer_line_text, words_head, transfers_text}
+use Rattle.ga_scheduler.specs.Words.{link_transfers, unlisted_transfers}
+use Rattle.ga_explorer_text.specs.Texts.{transfer_line_text, link_words_head_line, transfers_text}
 use Rattle.ga_explorer_text.proofs.Saying.{line_written, line_truncated, all_said, none_left}
 use Rattle.ga_explorer_text.proofs.words_text.say_linked.Goals as goal
 
@@ -17,7 +17,7 @@ returns-in_err-write_blocks g c = (
         refl,
         truncated_here c.from_residual.result _ before (said ++ whole) _ c.from_residual.ensures.0
             (truncated_within _ before said c.as_slice.result.now lines whole
-            (ap (λ (z : List ℕ). z ++ lines) (c.as_slice.ensures.value ∙ c.head_line.ensures ∙ ap (words_head c.args.from c.args.to) c.count_transfers-count.ensures))
+            (ap (λ (z : List ℕ). z ++ lines) (c.as_slice.ensures.value ∙ c.head_line.ensures ∙ ap (link_words_head_line c.args.from c.args.to) c.count_transfers-count.ensures))
             (c.in_err-write_blocks.ensures.1 before said h)),
       ),
 )
@@ -29,12 +29,12 @@ telling-init g c =
       same = search rules;
       up_to = λ before said h. record {
         front = c.as_slice.result.now;
-        splits = ap (λ (z : List ℕ). z ++ flat_map line (transfers_left s c.new-words.result))
-            (c.as_slice.ensures.value ∙ c.head_line.ensures ∙ ap (words_head c.args.from c.args.to) c.count_transfers-count.ensures)
-            ∙ ap (λ z. words_head c.args.from c.args.to (length (link_transfers s c.args.from.number c.args.to.number)) ++ flat_map line z) (c.new-words.ensures s);
+        splits = ap (λ (z : List ℕ). z ++ flat_map line (unlisted_transfers s c.new-words.result))
+            (c.as_slice.ensures.value ∙ c.head_line.ensures ∙ ap (link_words_head_line c.args.from c.args.to) c.count_transfers-count.ensures)
+            ∙ ap (λ z. link_words_head_line c.args.from c.args.to (length (link_transfers s c.args.from.number c.args.to.number)) ++ flat_map line z) (c.new-words.ensures s);
         is_said = c.in_ok-write_blocks.ensures.1 before said h;
       };
-      left = let all : length (transfers_left s c.new-words.result) ≡ c.count_transfers-count.result = ap length (c.new-words.ensures s) ∙ sym c.count_transfers-count.ensures in omega (arith, all);
+      left = let all : length (unlisted_transfers s c.new-words.result) ≡ c.count_transfers-count.result = ap length (c.new-words.ensures s) ∙ sym c.count_transfers-count.ensures in omega (arith, all);
     }
 
 pub returns-in_default : goal.returns-in_default
@@ -85,7 +85,7 @@ returns g c = (
         whole,
         refl,
         all_said _ before said whole _ _
-            (ap (flat_map (transfer_line_text c.args.from c.args.to)) (none_left (transfers_left s c.telling.words) (omega (arith, c.telling.invariant.left))))
+            (ap (flat_map (transfer_line_text c.args.from c.args.to)) (none_left (unlisted_transfers s c.telling.words) (omega (arith, c.telling.invariant.left))))
             (c.telling.invariant.up_to before said h),
       ),
 )

@@ -1,7 +1,7 @@
 use Rattle.std.proofs.Common.{◌≡◌, ◌-◌, ℕ, List, ◌++◌, [], refl, sym, ap, ◌∙◌, arith}
 use Rattle.ga_event.specs.Told.{count_steps}
 use Rattle.ga_text.proofs.WriteLemmas.{truncated_here, written_pending}
-use Rattle.ga_explorer_text.specs.Writing.{cell_writes}
+use Rattle.ga_explorer_text.specs.Writing.{cell_writes_lines}
 use Rattle.ga_explorer_text.proofs.Saying.{line_written, line_truncated, all_said, next_write, no_write}
 use Rattle.ga_provenance.specs.Writes.{CellWriteSearch, cell_write_search, newest_cell_write}
 use Rattle.ga_provenance.proofs.Keeping.{newest_within}
@@ -13,7 +13,7 @@ going-init g c = record {
   same = refl;
   said = λ before said h. record {
     front = [];
-    splits = ap (cell_writes c.args.lab.now c.args.node c.args.cell) (ap (λ (w : CellWriteSearch). w.step) c.new-writes.ensures);
+    splits = ap (cell_writes_lines c.args.lab.now c.args.node c.args.cell) (ap (λ (w : CellWriteSearch). w.step) c.new-writes.ensures);
     is_said = written_pending _ before said _ h;
   };
 }
@@ -23,7 +23,7 @@ returns-in_err-write_blocks g c = (
   c.in_err-write_blocks.ensures.0 ∙ c.going.invariant.same,
   λ before said h.
       let s = c.args.lab.now in
-      let whole : List ℕ = cell_writes s c.args.node c.args.cell (count_steps c.args.node.number s.kept) in
+      let whole : List ℕ = cell_writes_lines s c.args.node c.args.cell (count_steps c.args.node.number s.kept) in
       let line : List ℕ = c.as_slice.result.now in
       let done = c.going.invariant.said before said h in (
         whole,
@@ -41,13 +41,13 @@ going-preserved g c = record {
   same = c.in_ok-write_blocks.ensures.0 ∙ c.going.invariant.same;
   said = λ before said h.
       let s = c.args.lab.now in
-      let whole : List ℕ = cell_writes s c.args.node c.args.cell (count_steps c.args.node.number s.kept) in
+      let whole : List ℕ = cell_writes_lines s c.args.node c.args.cell (count_steps c.args.node.number s.kept) in
       let line : List ℕ = c.as_slice.result.now in
       let at : c.in-Some.written.step - 1 ≡ c.next.new.self.step = omega (arith, c.in-Some.ensures.step) in
       let done = c.going.invariant.said before said h in
       line_written _ before said whole _ line _ done.front _
       (next_write s c.args.node c.args.cell c.going.writes.step c.in-Some.written line (c.in-Some.ensures.value ∙ ap (λ (w : CellWriteSearch). newest_cell_write w.machine w.node.number w.cell c.going.writes.step) c.going.invariant.writes) (c.as_slice.ensures.value ∙ c.written_line.ensures)
-      ∙ ap (λ (k : ℕ). line ++ cell_writes s c.args.node c.args.cell k) at) done.splits
+      ∙ ap (λ (k : ℕ). line ++ cell_writes_lines s c.args.node c.args.cell k) at) done.splits
       (c.in_ok-write_blocks.ensures.1 before (said ++ done.front) done.is_said);
 }
 
@@ -61,7 +61,7 @@ returns g c = (
   c.going.invariant.same,
   λ before said h.
       let s = c.args.lab.now in
-      let whole : List ℕ = cell_writes s c.args.node c.args.cell (count_steps c.args.node.number s.kept) in (
+      let whole : List ℕ = cell_writes_lines s c.args.node c.args.cell (count_steps c.args.node.number s.kept) in (
         whole,
         refl,
         all_said _ before said whole _ _ (no_write s c.args.node c.args.cell c.going.writes.step (sym c.in_default.is ∙ c.next.ensures.value ∙ ap (λ (w : CellWriteSearch). newest_cell_write w.machine w.node.number w.cell c.going.writes.step) c.going.invariant.writes)) (c.going.invariant.said before said h),

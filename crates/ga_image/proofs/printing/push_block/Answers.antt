@@ -1,5 +1,5 @@
 use Rattle.std.proofs.Common.{◌≡◌, ◌≢◌, ℕ, List, length, take, sym, ap, ◌∙◌}
-use Rattle.ga_node.specs.Record.{record_of}
+use Rattle.ga_node.specs.Record.{record_of_node}
 use Rattle.ga_image.specs.Printing.{changed_lines_of_node}
 use Rattle.ga_image.proofs.Pieces.{block_grown, block_dropped}
 use Rattle.ga_image.proofs.printing.push_block.Goals as goal
@@ -7,7 +7,7 @@ use Rattle.ga_image.proofs.printing.push_block.Goals as goal
 pub returns-then-after-begun-clause-text : goal.returns-then-after-begun-clause-text
 returns-then-after-begun-clause-text c =
     let number = c.args.node.number in
-    let lines = changed_lines_of_node number (record_of c.args.at.now) in
+    let lines = changed_lines_of_node number (record_of_node c.args.at.now) in
     let old : List ℕ = c.args.text.now.items in
     let t1 : List ℕ = c.extend_from_slice.new.self.items in
     let t2 : List ℕ = c.push_node.new.text.items in
@@ -24,7 +24,7 @@ returns-then-after-begun-clause-text c =
 pub returns-else-after-begun-clause-text : goal.returns-else-after-begun-clause-text
 returns-else-after-begun-clause-text c =
     let number = c.args.node.number in
-    let lines = changed_lines_of_node number (record_of c.args.at.now) in
+    let lines = changed_lines_of_node number (record_of_node c.args.at.now) in
     let old : List ℕ = c.args.text.now.items in
     let t1 : List ℕ = c.extend_from_slice.new.self.items in
     let t2 : List ℕ = c.push_node.new.text.items in

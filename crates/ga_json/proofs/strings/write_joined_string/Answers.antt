@@ -1,14 +1,14 @@
 use Rattle.std.proofs.Common.{◌≡◌, [], ◌∷◌, ◌++◌, ◌∙◌, ap, refl, append_assoc}
 use Rattle.std.proofs.lemmas.Grind.{flat_map-append}
 use Rattle.ga_text.specs.Lines.{Text}
-use Rattle.ga_json.specs.Compact.{escape_text, escaped_text, quoted_text}
+use Rattle.ga_json.specs.Compact.{escaped_byte_text, escaped_text, quoted_text}
 use Rattle.ga_json.proofs.Says.{begins, goes_on, ends_with, cuts}
 use Rattle.ga_json.proofs.strings.write_joined_string.Goals as goal
 
 -- the escapes of both parts, one after another
 parts : (front rest : Text) → quoted_text (front ++ rest) ≡ 34 ∷ (escaped_text front ++ (escaped_text rest ++ 34 ∷ []))
 parts front rest =
-    ap (λ (z : Text). 34 ∷ (z ++ 34 ∷ [])) (flat_map-append escape_text front rest)
+    ap (λ (z : Text). 34 ∷ (z ++ 34 ∷ [])) (flat_map-append escaped_byte_text front rest)
     ∙ ap (λ (z : Text). 34 ∷ z) (append_assoc (escaped_text front) (escaped_text rest) (34 ∷ []))
 
 pub returns-in_err-write_text : goal.returns-in_err-write_text

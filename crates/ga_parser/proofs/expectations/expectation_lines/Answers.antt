@@ -1,5 +1,5 @@
 use Rattle.std.proofs.Common.{◌∙◌, ap}
-use Rattle.ga_parser.specs.Constants.{ConstantResolution, constant_resolution}
+use Rattle.ga_parser.specs.Constants.{ConstantResolution, resolution_of_words}
 use Rattle.ga_parser.specs.Expectations.{expectations_of_resolution, expectation_lines}
 use Rattle.ga_parser.specs.Saying.{source_lines}
 use Rattle.ga_parser.proofs.Placing.{scanned_same}
@@ -11,4 +11,4 @@ returns c =
     c.in_ok-read_lines.ensures
     ∙ ap (λ (resolved : ConstantResolution). expectations_of_resolution resolved (source_lines c.args.source.now))
     (rw c.as_slice.ensures.value at c.in_ok-resolved.ensures
-    ∙ ap constant_resolution (scanned_same c.in_ok-scanned.scanned.items c.args.source.now c.in_ok-scanned.ensures.says c.in_ok-scanned.ensures.columns))
+    ∙ ap resolution_of_words (scanned_same c.in_ok-scanned.scanned.items c.args.source.now c.in_ok-scanned.ensures.says c.in_ok-scanned.ensures.columns))

@@ -1,6 +1,6 @@
 use Rattle.std.proofs.Common.{◌∙◌, sym, refl}
 use Rattle.std.proofs.lemmas.Bool.{eqb-true}
-use Rattle.ga_parser.proofs.Scanning.{first_split, ends_here, other_line, no_line_left, said_all, with_added_token, columns_end_here, columns_other_line, no_columns_left, columns_all, columns_more}
+use Rattle.ga_parser.proofs.Scanning.{first_split, ends_here, other_line, no_line_left, said_all, resolution_with_token, columns_end_here, columns_other_line, no_columns_left, columns_all, columns_more}
 use Rattle.ga_parser.proofs.scan.scanned_words.Goals as goal
 
 pub loop-rest-init : goal.loop-rest-init
@@ -24,7 +24,7 @@ pub loop-rest-preserved : goal.loop-rest-preserved
 loop-rest-preserved c =
     let same = rw c.as_slice.ensures at c.eq.ensures in
     rw c.saturating_add-line.ensures (record {
-      says = with_added_token _ _ _ _ _ _ c.in_ok-scan_line.ensures.says
+      says = resolution_with_token _ _ _ _ _ _ c.in_ok-scan_line.ensures.says
           (other_line c.loop-rest.line c.loop-rest.rest.now c.first_line.result.0.now c.stripped_source_line-first.result.now c.first_line.result.1.now (first_split c.loop-rest.rest.now c.first_line.result.0.now c.first_line.result.1.now c.first_line.ensures.splits) c.stripped_source_line-first.ensures (sym same ∙ c.if-eq.false))
           c.loop-rest.invariant.says;
       columns = columns_more _ _ _ _ _ _ c.in_ok-scan_line.ensures.columns

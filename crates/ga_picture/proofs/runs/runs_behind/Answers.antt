@@ -1,7 +1,7 @@
 use Rattle.std.proofs.Common.{◌≡◌, ◌+◌, ◌-◌, ◌<◌, length, ap, sym, ◌∙◌, subst, set, arith}
 use Rattle.std.proofs.lemmas.List.{get_or_default, length-replicate}
-use Rattle.ga_picture.specs.Items.{item_at_place, default_picture_item, IsPlainOwnEvent}
-use Rattle.ga_picture.specs.inner.{count_in}
+use Rattle.ga_picture.specs.Items.{picture_item_at_index, default_picture_item, IsOwnEventIfPlain}
+use Rattle.ga_picture.specs.inner.{run_length_in_shade}
 use Rattle.ga_picture.proofs.Running.{AreBehind, behind_first, behind_more}
 use Rattle.ga_picture.proofs.runs.runs_behind.Goals as goal
 
@@ -19,7 +19,7 @@ pub pass-requires-clause-simple : goal.pass-requires-clause-simple
 pass-requires-clause-simple c =
     let at = length c.args.items.now - 1 - c.items.back in
     let within : at < length c.args.items.now = omega arith in
-    subst IsPlainOwnEvent (sym c.index-items-at.is) (c.requires.simple at c.index-items-at.result within)
+    subst IsOwnEventIfPlain (sym c.index-items-at.is) (c.requires.simple at c.index-items-at.result within)
 
 pub items-preserved : goal.items-preserved
 items-preserved c =
@@ -30,10 +30,10 @@ items-preserved c =
     let down : at ≡ length items - (c.items.back + 1) = omega arith in
     let within : at < length items = omega arith in
     let before = subst (λ z. AreBehind items z c.items.counts.items c.items.runs) next c.items.invariant in
-    let here : item_at_place items at ≡ item = get_or_default items at default_picture_item item within ∙ sym c.index-items-at.is in
+    let here : picture_item_at_index items at ≡ item = get_or_default items at default_picture_item item within ∙ sym c.index-items-at.is in
     subst (λ z. AreBehind items z (set c.items.counts.items at c.count.result) c.pass.new.self) down
     (behind_more items at c.items.counts.items c.items.runs c.pass.new.self item c.count.result within before here
-    (c.count.ensures ∙ ap (λ z. count_in c.items.runs z item.shade) c.acting_node_of_event.ensures) (subst (λ z. z < 144) c.acting_node_of_event.ensures c.acting_node_of_event.result.in_range) c.pass.ensures.sizes
+    (c.count.ensures ∙ ap (λ z. run_length_in_shade c.items.runs z item.shade) c.acting_node_of_event.ensures) (subst (λ z. z < 144) c.acting_node_of_event.ensures c.acting_node_of_event.result.in_range) c.pass.ensures.sizes
     (λ n. omega (arith, c.pass.ensures.within (length items - (at + 1)) before.within n)) c.pass.ensures.counts)
 
 pub returns-clause-exact : goal.returns-clause-exact

@@ -1,6 +1,6 @@
 use Rattle.std.specs.Prelude.{not}
 use Rattle.std.proofs.Common.{◌≡◌, ◌∙◌, Bool, List, [], true, false, refl, true≢false, sym, rules}
-use Rattle.ga_lab.specs.Machine.{State}
+use Rattle.ga_lab.specs.Machine.{MachineState}
 use Rattle.ga_picture.specs.declared.view.PictureView.{PictureView}
 use Rattle.ga_picture.specs.declared.placing.PictureRow.{PictureRow}
 use Rattle.ga_picture.specs.declared.race_marks.RaceMark.{RaceMark}
@@ -12,7 +12,7 @@ is_off true h = absurd (true≢false (sym h))
 is_off false h = refl
 
 -- without the option there are no marks
-none_marked : (s : State) (view : PictureView) (rows : List PictureRow) (marks : List RaceMark) → view.races ≡ false → marks ≡ [] → AreRaceMarks s view rows marks
+none_marked : (s : MachineState) (view : PictureView) (rows : List PictureRow) (marks : List RaceMark) → view.races ≡ false → marks ≡ [] → AreRaceMarks s view rows marks
 none_marked s view rows marks off none = record {
   readings = [];
   told = search rules;

@@ -15,7 +15,7 @@ going-preserved c =
     let is : suc k ≡ c.going.step = omega (arith, c.going-test.true) in
     record {
       within = omega (arith, c.going.invariant.within);
-      same = came_before c.args.lab.now c.args.node.number c.going.step k is (sym c.in_default.is ∙ c.is_incoming_code.ensures) ∙ c.going.invariant.same;
+      same = came_before c.args.lab.now c.args.node.number c.going.step k is (sym c.in_default.is ∙ c.brings_port_code.ensures) ∙ c.going.invariant.same;
     }
 
 pub returns : goal.returns

@@ -1,7 +1,7 @@
 use Rattle.std.proofs.Common.{sym, ◌∙◌, arith}
 use Rattle.std.proofs.lemmas.Bool.{and_parts}
 use Rattle.ga_provenance.specs.declared.kept.TrackedPlace.TheVariants.{A, B}
-use Rattle.ga_provenance.specs.inner.{is_unchanged_by}
+use Rattle.ga_provenance.specs.inner.{is_unchanged_by_step}
 use Rattle.ga_provenance.proofs.Resting.{word_rests}
 use Rattle.ga_provenance.proofs.kept.registers_before.Goals as goal
 
@@ -10,7 +10,7 @@ returns-then-both_rest c =
     let s = c.args.lab.now in
     let n = c.args.node.number in
     let held = c.requires.held in
-    let rest = and_parts (is_unchanged_by A c.args.told.now) (is_unchanged_by B c.args.told.now) (sym c.both_rest.ensures ∙ c.if-both_rest.true) in
+    let rest = and_parts (is_unchanged_by_step A c.args.told.now) (is_unchanged_by_step B c.args.told.now) (sym c.both_rest.ensures ∙ c.if-both_rest.true) in
     record {
       whole = held.whole;
       within = omega (arith, held.within);

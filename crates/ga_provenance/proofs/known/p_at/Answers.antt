@@ -1,6 +1,6 @@
 use Rattle.std.proofs.Common.{◌+◌, ◌≤◌, ◌∙◌, refl, sym, arith}
 use Rattle.ga_event.specs.Told.{count_steps}
-use Rattle.ga_node.specs.declared.place.Place.TheVariants as place
+use Rattle.ga_node.specs.declared.place.NodePlace.TheVariants as place
 use Rattle.ga_provenance.specs.Origins.{node_after_steps}
 use Rattle.ga_provenance.proofs.Resting.{held_old, held_left}
 use Rattle.ga_provenance.proofs.known.p_at.Goals as goal

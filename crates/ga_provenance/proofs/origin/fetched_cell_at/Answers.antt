@@ -1,6 +1,6 @@
 use Rattle.std.proofs.Common.{◌≡◌, ℕ, suc, ◌-◌, sym, ap, ◌∙◌, arith}
 use Rattle.ga_ports.specs.Address.{address_target}
-use Rattle.ga_provenance.specs.declared.value.Value.{Value}
+use Rattle.ga_provenance.specs.declared.value.PartValue.{PartValue}
 use Rattle.ga_provenance.specs.Fetched.{cell_of_target, cell_of_fetch}
 use Rattle.ga_provenance.proofs.origin.fetched_cell_at.Goals as goal
 
@@ -14,4 +14,4 @@ returns c =
     c.cell_of.ensures
     ∙ ap (λ (p : ℕ). cell_of_target (address_target p)) (sym c.p_by_trail.ensures)
     ∙ ap (cell_of_fetch s n) is
-    ∙ ap (λ (v : Value). cell_of_fetch s n v.step) (c.origin_behind-made.ensures.value ∙ c.kept_step-step.ensures.same)
+    ∙ ap (λ (v : PartValue). cell_of_fetch s n v.step) (c.origin_behind-made.ensures.value ∙ c.kept_step-step.ensures.same)

@@ -1,5 +1,5 @@
 use Rattle.std.proofs.Common.{◌≡◌, ◌≢◌, ◌≤◌, ◌-◌, true, false, refl, sym, ap, ◌∙◌, arith}
-use Rattle.ga_provenance.specs.declared.value.Value.{Value}
+use Rattle.ga_provenance.specs.declared.value.PartValue.{PartValue}
 use Rattle.ga_provenance.specs.Origins.{origin_after_steps, origin_of_value}
 use Rattle.ga_provenance.proofs.Moves.{one_back}
 use Rattle.ga_provenance.proofs.trail.follow.Goals as goal
@@ -18,20 +18,20 @@ record Followed (c : In-Some) : Type 0 where
 followed : (c : In-Some) → Followed c
 followed c = elim c.match-value.branch [
   | in-Data+else-value-eq0 w ↦
-      let step = ap (λ (z : Value). z.step) w.value-is in
+      let step = ap (λ (z : PartValue). z.step) w.value-is in
       record {
         some = omega (arith, step, w.if-value-eq0.false);
-        node = ap (λ (z : Value). z.node) w.value-is ∙ w.follow_data-followed.ensures.node ∙ c.telling.invariant.node;
+        node = ap (λ (z : PartValue). z.node) w.value-is ∙ w.follow_data-followed.ensures.node ∙ c.telling.invariant.node;
         within = omega (arith, step, w.follow_data-followed.ensures.within, c.telling.invariant.within);
-        same = ap (λ (z : Value). origin_of_value c.args.lab.now z) w.value-is ∙ w.follow_data-followed.ensures.same ∙ c.telling.invariant.same;
+        same = ap (λ (z : PartValue). origin_of_value c.args.lab.now z) w.value-is ∙ w.follow_data-followed.ensures.same ∙ c.telling.invariant.same;
       }
   | in_default w ↦
-      let step = ap (λ (z : Value). z.step) w.value-is in
+      let step = ap (λ (z : PartValue). z.step) w.value-is in
       record {
         some = omega (arith, step, c.telling-test.true);
-        node = ap (λ (z : Value). z.node) w.value-is ∙ c.telling.invariant.node;
+        node = ap (λ (z : PartValue). z.node) w.value-is ∙ c.telling.invariant.node;
         within = omega (arith, step, c.telling.invariant.within);
-        same = ap (λ (z : Value). origin_of_value c.args.lab.now z) w.value-is ∙ c.telling.invariant.same;
+        same = ap (λ (z : PartValue). origin_of_value c.args.lab.now z) w.value-is ∙ c.telling.invariant.same;
       }
 ]
 

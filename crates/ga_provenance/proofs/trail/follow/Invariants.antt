@@ -1,15 +1,15 @@
 use Rattle.std.proofs.Common.{◌≡◌, ◌≤◌, true}
-use Rattle.ga_event.specs.Flow.{IsNodePart}
+use Rattle.ga_event.specs.Flow.{IsNodePartInRange}
 use Rattle.ga_provenance.specs.Origins.{origin_of_value}
-use Rattle.ga_provenance.specs.inner.{AreHeld}
+use Rattle.ga_provenance.specs.inner.{AreRegistersAfterSteps}
 use Rattle.ga_provenance.proofs.trail.follow.Given as goal
 
 abbrev pub invariant-telling : goal.invariant-telling
 invariant-telling l = record {
-  part : IsNodePart l.value.part;
+  part : IsNodePartInRange l.value.part;
   node : l.value.node ≡ l.initial.value.node;
   within : l.value.step ≤ l.initial.value.step;
-  held : l.along ≡ true → AreHeld l.lab l.value.node.number l.value.step l.registers;
+  held : l.along ≡ true → AreRegistersAfterSteps l.lab l.value.node.number l.value.step l.registers;
   same : origin_of_value l.lab l.value ≡ origin_of_value l.lab l.initial.value;
 }
 

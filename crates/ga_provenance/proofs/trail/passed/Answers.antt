@@ -12,5 +12,5 @@ returns-clause-same c =
     let is : suc (value.step - 1) ≡ value.step = omega (arith, c.if-step-eq0.false) in
     back_on s value.node value.step (value.step - 1) value.part value.part (origin_of_value s value) is
     (sym (misses_stays s value.node.number (value.step - 1) value.part c.made_event_of_step-told.result before.result c.made_event_of_step-told.ensures before.ensures.a before.ensures.b
-    (sym c.misses.ensures ∙ c.if-not-misses.false)))
+    (sym c.event_stores_outside_part.ensures ∙ c.if-not-event_stores_outside_part.false)))
     refl

@@ -13,5 +13,5 @@ going-preserved c =
       fits = c.value_after-word.ensures.fits;
       within = omega (arith, c.going.invariant.within);
       same = wrote_before s n c.args.cell c.going.step (c.going.step - 1) is
-          (none_written s n c.args.cell (c.going.step - 1) c.made_event_of_step-told.result c.made_event_of_step-told.ensures (sym c.ran_store.ensures ∙ c.if-ran_store.false)) ∙ c.going.invariant.same;
+          (none_written s n c.args.cell (c.going.step - 1) c.made_event_of_step-told.result c.made_event_of_step-told.ensures (sym c.ran_store_opcode.ensures ∙ c.if-ran_store_opcode.false)) ∙ c.going.invariant.same;
     }

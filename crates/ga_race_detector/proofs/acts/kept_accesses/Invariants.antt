@@ -1,5 +1,5 @@
 use Rattle.std.proofs.Common.{◌≡◌, ◌≤◌, length}
-use Rattle.ga_race_detector.specs.inner.Glances.{AllStood, AreMomentsFrom}
+use Rattle.ga_race_detector.specs.inner.Glances.{AllNodesHadWaitsAndSteps, AreStepCountsOfEventsFrom}
 use Rattle.ga_race_detector.proofs.Acting.{AreActsFrom, HaveCauses}
 use Rattle.ga_race_detector.proofs.acts.kept_accesses.Given as goal
 
@@ -10,8 +10,8 @@ invariant-back l = record {
   within : l.place ≤ length l.acts.items;
   causes : HaveCauses l.acts.items l.causes;
   changes : AreActsFrom l.lab l.place l.acts.items;
-  moments : AreMomentsFrom l.lab l.place l.causes l.moments.items;
-  stood : AllStood l.lab l.place l.behind.waits l.behind.steps;
+  moments : AreStepCountsOfEventsFrom l.lab l.place l.causes l.moments.items;
+  stood : AllNodesHadWaitsAndSteps l.lab l.place l.behind.waits l.behind.steps;
 }
 
 abbrev pub decreases-back : goal.decreases-back

@@ -2,7 +2,7 @@ use Rattle.std.proofs.Common.{List, [], ◌∷◌, Contains, sym, subst}
 use Rattle.std.specs.List.{All}
 use Rattle.std.proofs.lemmas.List.Elements.{All-push, Contains-push, Contains-append_left}
 use Rattle.ga_race_detector.specs.declared.look_changes.LookChange.{LookChange}
-use Rattle.ga_race_detector.specs.inner.Glances.{IsGlanced}
+use Rattle.ga_race_detector.specs.inner.Glances.{IsRequestedLookChange}
 use Rattle.std.proofs.lemmas.Result.{on_ok_weaker}
 use Rattle.ga_race_detector.proofs.Glancing.{not_shown}
 use Rattle.ga_race_detector.proofs.NearReadings.{look_there, asked_of}
@@ -11,8 +11,8 @@ use Rattle.ga_race_detector.proofs.look_changes.add_near.Goals as goal
 pub returns-in-Some-clause-told : goal.returns-in-Some-clause-told
 returns-in-Some-clause-told c =
     on_ok_weaker c.add.result
-    (λ q. subst (λ (z : List LookChange). All (IsGlanced c.args.lab.now c.args.only) z) (sym q)
-    (All-push (IsGlanced c.args.lab.now c.args.only) c.args.list.now.items c.in-Some.glance c.requires.told ((c.args.near, c.in-Some.ensures.is), c.is_asked.ensures.asked c.if-is_asked.true)))
+    (λ q. subst (λ (z : List LookChange). All (IsRequestedLookChange c.args.lab.now c.args.only) z) (sym q)
+    (All-push (IsRequestedLookChange c.args.lab.now c.args.only) c.args.list.now.items c.in-Some.glance c.requires.told ((c.args.near, c.in-Some.ensures.is), c.is_asked.ensures.asked c.if-is_asked.true)))
     c.add.ensures.ok
 
 pub returns-in-Some-clause-kept : goal.returns-in-Some-clause-kept

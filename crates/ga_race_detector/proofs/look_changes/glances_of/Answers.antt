@@ -4,13 +4,13 @@ use Rattle.std.proofs.lemmas.List.{take_all, get_or_default}
 use Rattle.std.proofs.lemmas.List.Elements.{All-nil}
 use Rattle.ga_races.specs.declared.racing_pairs.RacingPair.{RacingPair}
 use Rattle.ga_race_detector.specs.declared.look_changes.LookChange.{LookChange}
-use Rattle.ga_race_detector.specs.inner.Glances.{IsGlanced, AreGlanced}
+use Rattle.ga_race_detector.specs.inner.Glances.{IsRequestedLookChange, AreReportedPairsListed}
 use Rattle.ga_race_detector.proofs.NearReadings.{glanced_first, glanced_next}
 use Rattle.ga_race_detector.proofs.look_changes.glances_of.Goals as goal
 
 pub nears-init : goal.nears-init
 nears-init c = record {
-  told = subst (λ (z : List LookChange). All (IsGlanced c.args.lab.now c.args.only) z) (sym c.new-list.ensures.items) (All-nil (IsGlanced c.args.lab.now c.args.only));
+  told = subst (λ (z : List LookChange). All (IsRequestedLookChange c.args.lab.now c.args.only) z) (sym c.new-list.ensures.items) (All-nil (IsRequestedLookChange c.args.lab.now c.args.only));
   found = glanced_first c.args.lab.now c.args.only c.new-list.result.items;
 }
 
@@ -23,4 +23,4 @@ nears-preserved c = record {
 
 pub returns-clause-found : goal.returns-clause-found
 returns-clause-found c =
-    subst (λ (z : List RacingPair). AreGlanced c.args.lab.now c.args.only z c.nears.list.items) (take_all c.nears.near-index c.args.nears.now (omega arith)) c.nears.invariant.found
+    subst (λ (z : List RacingPair). AreReportedPairsListed c.args.lab.now c.args.only z c.nears.list.items) (take_all c.nears.near-index c.args.nears.now (omega arith)) c.nears.invariant.found

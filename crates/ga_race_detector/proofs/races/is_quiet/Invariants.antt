@@ -1,7 +1,7 @@
 use Rattle.std.proofs.Common.{◌≡◌, ◌<◌, ℕ, false}
-use Rattle.ga_grid.specs.Chip.{records_of}
-use Rattle.ga_races.specs.Orders.{has_event}
+use Rattle.ga_grid.specs.Chip.{records_of_chip}
+use Rattle.ga_races.specs.Orders.{node_has_event}
 use Rattle.ga_race_detector.proofs.races.is_quiet.Given as goal
 
 abbrev pub invariant-nodes : goal.invariant-nodes
-invariant-nodes l = (n : ℕ) → n < l.number → has_event (records_of l.chip) n ≡ false
+invariant-nodes l = (n : ℕ) → n < l.number → node_has_event (records_of_chip l.chip) n ≡ false

@@ -1,6 +1,6 @@
 use Rattle.std.proofs.Common.{◌≡◌, ◌+◌, [], sym, ◌∙◌, ap, arith}
 use Rattle.ga_event.specs.Told.{count_steps}
-use Rattle.ga_race_detector.specs.Races.{races_of_steps_before}
+use Rattle.ga_race_detector.specs.Races.{races_of_first_steps}
 use Rattle.ga_race_detector.proofs.Racing.{one_more, none_before}
 use Rattle.ga_race_detector.proofs.races.takes_some.Goals as goal
 
@@ -14,4 +14,4 @@ steps-preserved c =
 
 pub returns : goal.returns
 returns c = λ q.
-    sym (c.steps.invariant ∙ ap (races_of_steps_before c.args.lab.now c.args.node) (let e : c.steps.place ≡ count_steps c.args.node.number c.args.lab.now.kept = omega (arith, c.steps-test.false, c.steps-steps.ensures.steps) in e))
+    sym (c.steps.invariant ∙ ap (races_of_first_steps c.args.lab.now c.args.node) (let e : c.steps.place ≡ count_steps c.args.node.number c.args.lab.now.kept = omega (arith, c.steps-test.false, c.steps-steps.ensures.steps) in e))

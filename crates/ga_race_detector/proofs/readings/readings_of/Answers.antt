@@ -1,10 +1,10 @@
 use Rattle.std.proofs.Common.{List, sym, subst, arith}
 use Rattle.std.specs.List.{All}
 use Rattle.std.proofs.lemmas.List.Elements.{All-nil, All-get_or}
-use Rattle.ga_event.specs.declared.event.Cause.{Cause}
+use Rattle.ga_event.specs.declared.event.EventWithLook.{EventWithLook}
 use Rattle.ga_race_detector.specs.Readings.{IsReportedLookRace}
 use Rattle.ga_race_detector.specs.declared.readings.LookRace.{LookRace}
-use Rattle.ga_race_detector.specs.inner.Glances.{IsGlanced, IsAroundOf}
+use Rattle.ga_race_detector.specs.inner.Glances.{IsRequestedLookChange, AreStepsKeptByLookRollback}
 use Rattle.ga_race_detector.proofs.Glancing.{all_steps}
 use Rattle.ga_race_detector.proofs.Lefts.{known_none}
 use Rattle.ga_race_detector.proofs.NearReadings.{read_first, read_next, read_all}
@@ -24,11 +24,11 @@ around_of-requires-clause-steps c =
 
 pub add_reading-requires-clause-glance : goal.add_reading-requires-clause-glance
 add_reading-requires-clause-glance c =
-    subst (IsGlanced c.args.lab.now c.args.only) (sym c.glance_at-glance.ensures) (All-get_or (IsGlanced c.args.lab.now c.args.only) c.args.glances.now c.glances.place c.glance_at-glance.result (omega arith) c.requires.glances)
+    subst (IsRequestedLookChange c.args.lab.now c.args.only) (sym c.glance_at-glance.ensures) (All-get_or (IsRequestedLookChange c.args.lab.now c.args.only) c.args.glances.now c.glances.place c.glance_at-glance.result (omega arith) c.requires.glances)
 
 pub add_reading-requires-clause-around : goal.add_reading-requires-clause-around
 add_reading-requires-clause-around c =
-    subst (λ (z : List Cause). IsAroundOf z c.glance_at-glance.result c.in_ok-around.around) c.requires.all (c.in_ok-around.ensures.around c.glance_at-glance.result c.glance_at-glance.ensures)
+    subst (λ (z : List EventWithLook). AreStepsKeptByLookRollback z c.glance_at-glance.result c.in_ok-around.around) c.requires.all (c.in_ok-around.ensures.around c.glance_at-glance.result c.glance_at-glance.ensures)
 
 pub glances-preserved : goal.glances-preserved
 glances-preserved c = record {

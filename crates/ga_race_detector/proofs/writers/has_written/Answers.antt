@@ -1,6 +1,6 @@
 use Rattle.std.proofs.Common.{◌∙◌, ◌+◌, ◌≡◌, ap, sym, arith}
 use Rattle.std.specs.Prelude.{is_some}
-use Rattle.ga_node.specs.Record.{record_of}
+use Rattle.ga_node.specs.Record.{record_of_node}
 use Rattle.ga_event.specs.Apply.{waits_to_write_side}
 use Rattle.ga_lab.specs.Machine.{NodeAtStep, node_at_step}
 use Rattle.ga_race_detector.proofs.Silent.{silent, at_walk, silent_here, silent_last, silent_more, walked}
@@ -10,10 +10,10 @@ pub back-init : goal.back-init
 back-init c =
     let s = c.args.lab.now in
     let node = c.args.node in
-    let w : NodeAtStep = c.walk-walk.result in
-    let step : w.step ≡ c.steps.result = ap (λ (z : NodeAtStep). z.step) c.walk-walk.ensures in
-    let is : w ≡ node_at_step s node w.step = c.walk-walk.ensures ∙ ap (node_at_step s node) (sym step) in
-    let held = record_of c.node.result.now in
+    let w : NodeAtStep = c.walk_node_from_step-walk.result in
+    let step : w.step ≡ c.steps.result = ap (λ (z : NodeAtStep). z.step) c.walk_node_from_step-walk.ensures in
+    let is : w ≡ node_at_step s node w.step = c.walk_node_from_step-walk.ensures ∙ ap (node_at_step s node) (sym step) in
+    let held = record_of_node c.node.result.now in
     record {
       walk = is;
       silent = λ free. silent_last s node.number c.args.side w.step (step ∙ c.steps.ensures.steps)
@@ -29,7 +29,7 @@ back-preserved c =
     let new : NodeAtStep = c.back-in-back.new.self in
     let is : new ≡ node_at_step s node new.step = walked old new s node c.back.invariant.walk c.back-in-back.ensures in
     let step : new.step + 1 ≡ old.step = (let e = ap (λ (z : NodeAtStep). z.step) c.back-in-back.ensures in omega (arith, e, c.if-step-gt0.true, c.step.ensures.value)) in
-    let held = record_of c.node-in-back.result.now in
+    let held = record_of_node c.node-in-back.result.now in
     record {
       walk = is;
       silent = λ free. silent_more s node.number c.args.side old.step new.step step (c.back.invariant.silent c.back-test.true)

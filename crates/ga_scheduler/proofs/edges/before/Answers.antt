@@ -1,11 +1,11 @@
 use Rattle.std.proofs.Common.{◌≡◌, ◌∙◌, ◌-◌, length, take, take_all, ap, sym, subst, arith}
-use Rattle.ga_grid.specs.Chip.{record_at}
-use Rattle.ga_lab.specs.Machine.{State, chip_of}
-use Rattle.ga_lab.specs.Holding.{HoldsValue}
+use Rattle.ga_grid.specs.Chip.{node_record_at}
+use Rattle.ga_lab.specs.Machine.{MachineState, chip_of_machine}
+use Rattle.ga_lab.specs.Holding.{HoldsPlaceValue}
 use Rattle.ga_event.specs.Told.{count_steps}
 use Rattle.ga_scheduler.proofs.edges.before.Goals as goal
 
-whole : (s : State) → take (length s.kept) s.kept ≡ s.kept
+whole : (s : MachineState) → take (length s.kept) s.kept ≡ s.kept
 whole s = take_all (length s.kept) s.kept (omega arith)
 
 pub overflow_sub-steps : goal.overflow_sub-steps
@@ -20,4 +20,4 @@ returns-in-None c =
     c.in-None.ensures.left (length s.kept - 1) (length s.kept) c.args.behind
     (omega (arith, c.requires.newest, c.steps.ensures.steps))
     (ap (count_steps c.args.node.number) (whole s) ∙ omega (arith, c.requires.newest, c.steps.ensures.steps))
-    (subst (λ z. HoldsValue (record_at (chip_of z) c.args.node.number) c.args.what c.args.behind) (ap (λ z. record s { kept = z }) (sym (whole s))) c.requires.held)
+    (subst (λ z. HoldsPlaceValue (node_record_at (chip_of_machine z) c.args.node.number) c.args.what c.args.behind) (ap (λ z. record s { kept = z }) (sym (whole s))) c.requires.held)

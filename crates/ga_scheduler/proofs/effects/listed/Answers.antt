@@ -1,5 +1,5 @@
 use Rattle.std.proofs.Common.{◌∙◌, ◌+◌, sym, ap}
-use Rattle.ga_scheduler.specs.Effects.{kept_steps}
+use Rattle.ga_scheduler.specs.Effects.{step_count_in_history}
 use Rattle.ga_scheduler.proofs.Taking.{effects_step, told_below, told_past}
 use Rattle.ga_scheduler.proofs.effects.listed.Goals as goal
 
@@ -9,7 +9,7 @@ loop-number-init c = λ left h.
 
 pub loop-number-preserved : goal.loop-number-preserved
 loop-number-preserved c = λ left h.
-    effects_step left (kept_steps c.args.lab.now) c.loop-number.number c.new-node.result.number c.loop-number.list.items c.add_steps.new.list.items c.new-node.ensures (c.loop-number.invariant left h)
+    effects_step left (step_count_in_history c.args.lab.now) c.loop-number.number c.new-node.result.number c.loop-number.list.items c.add_steps.new.list.items c.new-node.ensures (c.loop-number.invariant left h)
     (c.in_ok-add_steps.ensures.ok left (ap (λ z. z + left c.new-node.result.number) c.count.ensures ∙ h c.new-node.result.number))
 
 pub returns-clause-ok : goal.returns-clause-ok

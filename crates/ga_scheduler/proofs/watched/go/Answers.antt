@@ -1,14 +1,14 @@
 use Rattle.std.proofs.Common.{sym}
-use Rattle.ga_lab.specs.Machine.{chip_of}
-use Rattle.ga_scheduler.specs.Running.{running}
+use Rattle.ga_lab.specs.Machine.{chip_of_machine}
+use Rattle.ga_scheduler.specs.Running.{scheduled_machine}
 use Rattle.ga_scheduler.proofs.Stepping.{quiet_is}
 use Rattle.ga_scheduler.proofs.Events.{none_left, told_is_first, moved_is_first}
 use Rattle.ga_scheduler.proofs.watched.go.Goals as goal
 
 pub returns-in-None-clause-halted : goal.returns-in-None-clause-halted
 returns-in-None-clause-halted c =
-    quiet_is (chip_of c.args.lab.now) c.args.schedule.now
-    (none_left c.args.first (running c.args.lab.now c.args.schedule.now) (sym c.in-None.ensures.chosen))
+    quiet_is (chip_of_machine c.args.lab.now) c.args.schedule.now
+    (none_left c.args.first (scheduled_machine c.args.lab.now c.args.schedule.now) (sym c.in-None.ensures.chosen))
 
 pub returns-in-Ok-clause-told : goal.returns-in-Ok-clause-told
 returns-in-Ok-clause-told c =

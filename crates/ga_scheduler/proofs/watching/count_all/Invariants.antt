@@ -1,11 +1,11 @@
 use Rattle.std.proofs.Common.{◌≡◌, ℕ, ◌<◌, Some, length}
 use Rattle.std.specs.Prelude.{slice_get, slice_index}
 use Rattle.ga_scheduler.specs.declared.condition.Condition.{Condition}
-use Rattle.ga_scheduler.specs.inner.{counted}
+use Rattle.ga_scheduler.specs.inner.{condition_transfer_count}
 use Rattle.ga_scheduler.proofs.watching.count_all.Given as goal
 
 abbrev pub invariant-loop-place : goal.invariant-loop-place
 invariant-loop-place l = record {
   size : length l.words ≡ 8;
-  done : (k : ℕ) (one : Condition) → slice_get l.until k ≡ Some one → k < l.place → counted one l.lab ≡ slice_index l.words k;
+  done : (k : ℕ) (one : Condition) → slice_get l.until k ≡ Some one → k < l.place → condition_transfer_count one l.lab ≡ slice_index l.words k;
 }

@@ -1,7 +1,7 @@
 use Rattle.std.proofs.Common.{◌≡◌, ◌+◌, [], ◌∷◌, ◌++◌, length, Some, arith, sym, ap, ◌∙◌, subst, vec_len, map, true≢false}
 use Rattle.std.specs.Prelude.{slice_get}
 use Rattle.ga_shared.specs.Log.{Worker, fresh_worker}
-use Rattle.ga_shared.specs.inner.{IsDone}
+use Rattle.ga_shared.specs.inner.{HasWorkerMadeListedCalls}
 use Rattle.ga_shared.proofs.Places.{Each-push, Each-front, Each-last, Each-along, on_ok, slice_get-last, slice_get-front}
 use Rattle.ga_shared.proofs.racing.run_all.Goals as goal
 use Rattle.ga_shared.proofs.racing.run_all.Goals.{then-is_err, else-is_err}
@@ -41,6 +41,6 @@ loop-thread-preserved g c =
       numbered = Each-along (back ++ seat ∷ []) c.push_reserved-in-Some-pop.new.self.items (λ k (s : Worker). s.number ≡ k) (sym pushed) (Each-push back seat (λ k (s : Worker). s.number ≡ k) i.numbered (omega (arith, joined.0, last.0, i.size, c.in-Some-pop.ensures.len)));
       done = λ whole. elim c.if-is_err.branch [
         | then-is_err w ↦ absurd (true≢false (sym whole ∙ w.is_whole-is))
-        | else-is_err w ↦ Each-along (back ++ seat ∷ []) c.push_reserved-in-Some-pop.new.self.items (λ k (s : Worker). IsDone lists s) (sym pushed) (Each-push back seat (λ k (s : Worker). IsDone lists s) (i.done (sym w.is_whole-is ∙ whole)) (subst (λ l. IsDone l seat) same (on_ok c.join-seat.result.1 (IsDone (map (λ v. v.items) thread.promise.lists.value.items) seat) (sym c.is_err.ensures.value ∙ w.if-is_err.false) joined.1)))
+        | else-is_err w ↦ Each-along (back ++ seat ∷ []) c.push_reserved-in-Some-pop.new.self.items (λ k (s : Worker). HasWorkerMadeListedCalls lists s) (sym pushed) (Each-push back seat (λ k (s : Worker). HasWorkerMadeListedCalls lists s) (i.done (sym w.is_whole-is ∙ whole)) (subst (λ l. HasWorkerMadeListedCalls l seat) same (on_ok c.join-seat.result.1 (HasWorkerMadeListedCalls (map (λ v. v.items) thread.promise.lists.value.items) seat) (sym c.is_err.ensures.value ∙ w.if-is_err.false) joined.1)))
       ];
     }

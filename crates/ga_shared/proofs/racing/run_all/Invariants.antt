@@ -1,7 +1,7 @@
 use Rattle.std.proofs.Common.{◌≡◌, ◌+◌, ◌<◌, ◌≤◌, ℕ, vec_len, map, true, Some}
 use Rattle.std.specs.Prelude.{slice_get, vec_capacity}
 use Rattle.ga_shared.specs.Log.{Worker, fresh_worker}
-use Rattle.ga_shared.specs.inner.{IsDone}
+use Rattle.ga_shared.specs.inner.{HasWorkerMadeListedCalls}
 use Rattle.ga_shared.proofs.racing.run_all.Given as goal
 
 abbrev pub invariant-loop-seat : goal.invariant-loop-seat
@@ -21,7 +21,7 @@ invariant-loop-thread g l = record {
   room : vec_len l.lists ≤ vec_capacity l.back;
   promised : (k : ℕ) (t : _) → slice_get l.threads.items k ≡ Some t → (t.promise.worker + k + 1 ≡ vec_len l.lists) × (t.promise.lists.value ≡ l.lists);
   numbered : (w : ℕ) (s : Worker) → slice_get l.back.items w ≡ Some s → s.number ≡ w;
-  done : l.is_whole ≡ true → (w : ℕ) (s : Worker) → slice_get l.back.items w ≡ Some s → IsDone (map (λ v. v.items) l.lists.items) s;
+  done : l.is_whole ≡ true → (w : ℕ) (s : Worker) → slice_get l.back.items w ≡ Some s → HasWorkerMadeListedCalls (map (λ v. v.items) l.lists.items) s;
 }
 
 abbrev pub decreases-loop-thread : goal.decreases-loop-thread

@@ -2,7 +2,7 @@ use Rattle.std.proofs.Common.{rules, refl, ◌≡◌, ◌<◌, ◌≤◌, length
 use Rattle.std.specs.Prelude.{Err}
 use Rattle.ga_source.specs.declared.group.CellGroup.{CellGroup}
 use Rattle.ga_source.specs.Cells.{KeepsOtherCells}
-use Rattle.ga_source.specs.inner.{takes_group, IsLoadedGroup}
+use Rattle.ga_source.specs.inner.{group_uses_cell, IsLoadedGroup}
 use Rattle.ga_source.proofs.CellGroups.{all_open, open_more, never_twice}
 use Rattle.ga_source.proofs.Held.{rest_both, elsewhere_more, loaded_more, all_read}
 use Rattle.ga_source.proofs.loading.load.Goals as goal
@@ -17,7 +17,7 @@ loop-group-preserved c =
     record {
       rest = rest_both c.args.node.now c.loop-group.node c.write_group.new.node c.loop-group.invariant.rest c.in_ok-write_group.ensures.rest;
       elsewhere = elsewhere_more c.args.node.now c.loop-group.node c.write_group.new.node groups i group l c.loop-group.invariant.elsewhere
-          (subst (λ (g : CellGroup). KeepsOtherCells (λ cell. takes_group cell g) c.loop-group.node c.write_group.new.node) is_group c.in_ok-write_group.ensures.elsewhere);
+          (subst (λ (g : CellGroup). KeepsOtherCells (λ cell. group_uses_cell cell g) c.loop-group.node c.write_group.new.node) is_group c.in_ok-write_group.ensures.elsewhere);
       loaded = loaded_more c.loop-group.node c.write_group.new.node c.loop-group.given c.write_group.new.given c.as_slice-labels.result.now groups i group l c.in_ok-write_group.ensures.kept c.loop-group.invariant.loaded
           (subst (λ (g : CellGroup). IsLoadedGroup c.write_group.new.node c.as_slice-labels.result.now c.write_group.new.given g) is_group c.in_ok-write_group.ensures.loaded);
       size = search rules;

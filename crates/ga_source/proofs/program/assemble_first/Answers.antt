@@ -2,7 +2,7 @@ use Rattle.std.proofs.Common.{rules, arith, ◌≡◌, ◌∙◌, sym, Some, ◌
 use Rattle.ga_grid.specs.declared.node_id.NodeId.{NodeId}
 use Rattle.std.specs.Prelude.{Err}
 use Rattle.ga_grid.specs.Grid.{optional_node_number}
-use Rattle.ga_parser.specs.declared.fault.SourceCause.TheVariants.{Memory}
+use Rattle.ga_parser.specs.declared.fault.SourceFaultCause.TheVariants.{Memory}
 use Rattle.ga_source.specs.Programs.{HasProgram}
 use Rattle.ga_source.proofs.Loaded.{one_more_at}
 use Rattle.ga_source.proofs.Refusing.{not_node, too_few, no_such, begun_twice, first_refused, left_first}

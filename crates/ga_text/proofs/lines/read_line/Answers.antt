@@ -46,18 +46,18 @@ returns-in_err-flush-clause-reads g c = λ left known.
 
 pub parts-preserved : goal.parts-preserved
 parts-preserved g c = record {
-  within = c.in-More.ensures.within;
-  goes_on = let took = c.if-read_buffered_line.ensures.takes in omega (arith, c.parts.invariant.goes_on, took.1.3, c.in-More.ensures.taken);
+  within = c.in-HasBytes.ensures.within;
+  goes_on = let took = c.if-read_buffered_line.ensures.takes in omega (arith, c.parts.invariant.goes_on, took.1.3, c.in-HasBytes.ensures.taken);
   part = λ left known.
       let inv = c.parts.invariant.part left known in
       let took = c.if-read_buffered_line.ensures.takes in
       let piece = took.0 in
-      let filled = c.in-More.ensures.fills inv.1 inv.2 in (
+      let filled = c.in-HasBytes.ensures.fills inv.1 inv.2 in (
         inv.0 ++ piece,
         filled.0,
         filled.1,
         line_same _ _ _ inv.1 _ filled.2 (line_all _ _ _ inv.0 piece c.parts.input.bytes inv.1 inv.3 took.1.0 took.1.1 took.2),
-        omega (arith, inv.4, took.1.3, c.in-More.ensures.taken, length-append inv.0 piece),
+        omega (arith, inv.4, took.1.3, c.in-HasBytes.ensures.taken, length-append inv.0 piece),
       );
   same = c.in_ok-flush.ensures.said.0 ∙ c.parts.invariant.same;
   said = λ before said h. c.in_ok-flush.ensures.said.1 before said (c.parts.invariant.said before said h);
@@ -82,12 +82,12 @@ returns-in-End-clause-reads g c = λ left known.
       ),
     )
 
-pub returns-in-Past-clause-reads : goal.returns-in-Past-clause-reads
-returns-in-Past-clause-reads g c = λ left known.
+pub returns-in-PastLimit-clause-reads : goal.returns-in-PastLimit-clause-reads
+returns-in-PastLimit-clause-reads g c = λ left known.
     let inv = c.parts.invariant.part left known in
     let took = c.if-read_buffered_line.ensures.takes in
     let piece = took.0 in
-    let filled = c.in-Past.ensures.fills inv.1 inv.2 in (
+    let filled = c.in-PastLimit.ensures.fills inv.1 inv.2 in (
       filled.0,
       filled.1,
       record {
@@ -95,10 +95,10 @@ returns-in-Past-clause-reads g c = λ left known.
         takes = record {
           part = inv.0 ++ piece;
           is_line = line_same _ _ _ inv.1 _ filled.2.1.1 (line_all _ _ _ inv.0 piece c.parts.input.bytes inv.1 inv.3 took.1.0 took.1.1 took.2);
-          counts = omega (arith, inv.4, took.1.3, c.in-Past.ensures.taken, length-append inv.0 piece);
-          none_left = c.in-Past.ensures.filled;
+          counts = omega (arith, inv.4, took.1.3, c.in-PastLimit.ensures.taken, length-append inv.0 piece);
+          none_left = c.in-PastLimit.ensures.filled;
         };
-        full = omega (arith, filled.2.0, c.in-Past.ensures.taken);
+        full = omega (arith, filled.2.0, c.in-PastLimit.ensures.taken);
       },
     )
 

@@ -1,6 +1,6 @@
 use Rattle.std.proofs.Common.{◌≡◌, ℕ, ◌+◌, ◌-◌, ◌≤◌, List, ◌++◌, length, Some}
-use Rattle.ga_text.specs.Input.{IsWithinInputLimit, IsBoundedLine}
-use Rattle.ga_text.specs.Output.{IsTextWritten}
+use Rattle.ga_text.specs.Input.{IsWithinInputLimit, HoldsLinePartUpToLimit}
+use Rattle.ga_text.specs.Output.{IsTextWrittenOrPending}
 use Rattle.ga_text.proofs.lines.read_line.Given as goal
 
 -- what was taken so far holds no line feed
@@ -10,11 +10,11 @@ invariant-parts g l = record {
   goes_on : l.fn.input.taken ≤ l.input.taken;
   part : (left : List ℕ) → g.R.Read.remaining l.fn.reader ≡ Some left →
       (part : List ℕ) × (rest : List ℕ) × (g.R.Read.remaining l.reader ≡ Some rest)
-      × IsBoundedLine (l.fn.input.bytes ++ left) l.line.items part (l.input.bytes ++ rest)
+      × HoldsLinePartUpToLimit (l.fn.input.bytes ++ left) l.line.items part (l.input.bytes ++ rest)
       × (l.input.taken ≡ l.fn.input.taken + length part);
   same : l.writer.stream.ghost_name ≡ l.fn.writer.stream.ghost_name;
-  said : (before said : List ℕ) → IsTextWritten (g.W.Write.contents l.fn.writer.stream.now) before said l.fn.writer.pending.items
-      → IsTextWritten (g.W.Write.contents l.writer.stream.now) before said l.writer.pending.items;
+  said : (before said : List ℕ) → IsTextWrittenOrPending (g.W.Write.contents l.fn.writer.stream.now) before said l.fn.writer.pending.items
+      → IsTextWrittenOrPending (g.W.Write.contents l.writer.stream.now) before said l.writer.pending.items;
 }
 
 -- how many bytes may still be read

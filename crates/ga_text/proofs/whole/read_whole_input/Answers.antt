@@ -22,9 +22,9 @@ returns-in-Ok-Failed g c = λ left known.
     let text : List ℕ = c.read_image.new.text.items in
     (text, got.0, from_start c.new-input.result left (text ++ got.0) c.new-input.ensures got.2.1, got.1, got.2.0)
 
-pub returns-in-Ok-Past : goal.returns-in-Ok-Past
-returns-in-Ok-Past g c = λ left known.
-    let reads = rw c.in-Ok-Past.field-0-is at c.in-Ok-Past.ensures.reads in
+pub returns-in-Ok-PastLimit : goal.returns-in-Ok-PastLimit
+returns-in-Ok-PastLimit g c = λ left known.
+    let reads = rw c.in-Ok-PastLimit.field-0-is at c.in-Ok-PastLimit.ensures.reads in
     let got = reads left known in
     let text : List ℕ = c.read_image.new.text.items in
     let ahead : List ℕ = got.2.1.byte ∷ [] in (
@@ -35,9 +35,9 @@ returns-in-Ok-Past g c = λ left known.
       (ahead, refl, (omega (arith, got.2.1.takes.counts, got.2.1.full, taken_none c.new-input.result c.new-input.ensures), refl, got.2.0)),
     )
 
-pub returns-in-Ok-Ended : goal.returns-in-Ok-Ended
-returns-in-Ok-Ended g c = λ left known.
-    let reads = rw c.in-Ok-Ended.field-0-is at c.in-Ok-Ended.ensures.reads in
+pub returns-in-Ok-EndOfInput : goal.returns-in-Ok-EndOfInput
+returns-in-Ok-EndOfInput g c = λ left known.
+    let reads = rw c.in-Ok-EndOfInput.field-0-is at c.in-Ok-EndOfInput.ensures.reads in
     let got = reads left known in
     let text : List ℕ = c.read_image.new.text.items in (
       text,

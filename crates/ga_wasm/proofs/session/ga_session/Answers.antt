@@ -4,12 +4,12 @@ use Rattle.ga_wasm.proofs.session.ga_session.Goals as goal
 
 pub returns : goal.returns
 returns c =
-    let said = c.explore-status.ensures c.args.input.now [] (ap Some c.streams-answers.ensures.0) (ap Some c.streams-answers.ensures.1) in
-    let whole = c.as_slice.ensures.value ∙ same_Some c.explore-status.new.writer.items said.2 said.5 in (
+    let said = c.serve_explorer_session-status.ensures c.args.input.now [] (ap Some c.streams-answers.ensures.0) (ap Some c.streams-answers.ensures.1) in
+    let whole = c.as_slice.ensures.value ∙ same_Some c.serve_explorer_session-status.new.writer.items said.2 said.5 in (
       said.0,
       said.1,
       said.2,
-      c.explore-status.result,
+      c.serve_explorer_session-status.result,
       said.3,
       said.6,
       c.put_front-2.ensures.count ∙ ap length whole,

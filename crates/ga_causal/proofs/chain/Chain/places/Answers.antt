@@ -1,17 +1,17 @@
 use Rattle.std.proofs.Common.{◌≡◌, ◌∙◌, ℕ, zero, suc, ◌+◌, ◌<◌, List, [], ◌∷◌, ◌++◌, length, map, take, get_or, refl, sym, ap, arith, add-one}
 use Rattle.std.proofs.lemmas.List.{take_all}
-use Rattle.ga_causal.specs.declared.chain.Link.{Link}
+use Rattle.ga_causal.specs.declared.chain.ChainLink.{ChainLink}
 use Rattle.ga_causal.proofs.chain.Chain.places.Goals as goal
 
-abbrev place_of : Link → ℕ
+abbrev place_of : ChainLink → ℕ
 place_of link = link.place
 
-next_place : (links : List Link) (i : ℕ) (d : Link) → i < length links → map place_of (take (suc i) links) ≡ map place_of (take i links) ++ (get_or links i d).place ∷ []
+next_place : (links : List ChainLink) (i : ℕ) (d : ChainLink) → i < length links → map place_of (take (suc i) links) ≡ map place_of (take i links) ++ (get_or links i d).place ∷ []
 next_place [] i d l = absurd (omega (arith, l))
 next_place (x ∷ xs) zero d l = refl
 next_place (x ∷ xs) (suc i) d l = ap (λ z. x.place ∷ z) (next_place xs i d (omega (arith, l)))
 
-more_places : (links : List Link) (i : ℕ) (d : Link) (old new : List ℕ) → i < length links → old ≡ map place_of (take i links) → new ≡ old ++ (get_or links i d).place ∷ [] → new ≡ map place_of (take (i + 1) links)
+more_places : (links : List ChainLink) (i : ℕ) (d : ChainLink) (old new : List ℕ) → i < length links → old ≡ map place_of (take i links) → new ≡ old ++ (get_or links i d).place ∷ [] → new ≡ map place_of (take (i + 1) links)
 more_places links i d old new l p q =
     q ∙ ap (λ z. z ++ (get_or links i d).place ∷ []) p ∙ sym (ap (λ (n : ℕ). map place_of (take n links)) (add-one i) ∙ next_place links i d l)
 

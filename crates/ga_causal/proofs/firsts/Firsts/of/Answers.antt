@@ -1,6 +1,6 @@
 use Rattle.std.proofs.Common.{◌≡◌, ◌<◌, ◌+◌, length, ◌∙◌, sym, subst, arith}
-use Rattle.ga_causal.specs.inner.{first_at, IsFirsts}
-use Rattle.ga_causal.proofs.Oldest.{noted_first, noted_more, noted_none}
+use Rattle.ga_causal.specs.inner.{oldest_place_of_node, AreOldestEventPlaces}
+use Rattle.ga_causal.proofs.OldestEventPlaces.{noted_first, noted_more, noted_none}
 use Rattle.ga_causal.proofs.firsts.Firsts.of.Goals as goal
 use Rattle.ga_causal.proofs.firsts.Firsts.of.Goals.{then-oldest-to, else-oldest-to}
 
@@ -18,19 +18,19 @@ loop-place-preserved c =
     let after : c.args.from < c.loop-place.place = omega arith in
     elim c.if-oldest-to.branch [
       | then-oldest-to w ↦ (
-          let made : IsFirsts c.args.events.now c.args.from (c.loop-place.place + 1) c.args.to (first_at w.note-then-oldest-to.new.self) =
+          let made : AreOldestEventPlaces c.args.events.now c.args.from (c.loop-place.place + 1) c.args.to (oldest_place_of_node w.note-then-oldest-to.new.self) =
           noted_more c.args.events.now c.args.from c.loop-place.place c.args.to c.loop-place.firsts w.note-then-oldest-to.new.self c.index-events-place.result c.oldest.result
           c.loop-place.invariant.firsts c.loop-place.invariant.none within c.loop-place-test.true c.index-events-place.is c.oldest.ensures w.if-oldest-to.true w.note-then-oldest-to.ensures.places in
           record {
-            firsts = subst (λ z. IsFirsts c.args.events.now c.args.from (c.loop-place.place + 1) c.args.to (first_at z)) (sym w.firsts-is) made;
+            firsts = subst (λ z. AreOldestEventPlaces c.args.events.now c.args.from (c.loop-place.place + 1) c.args.to (oldest_place_of_node z)) (sym w.firsts-is) made;
             none = subst (λ z. z.none ≡ c.args.to) (sym w.firsts-is) (w.note-then-oldest-to.ensures.none ∙ c.loop-place.invariant.none);
           })
       | else-oldest-to w ↦ (
-          let made : IsFirsts c.args.events.now c.args.from (c.loop-place.place + 1) c.args.to (first_at c.loop-place.firsts) =
+          let made : AreOldestEventPlaces c.args.events.now c.args.from (c.loop-place.place + 1) c.args.to (oldest_place_of_node c.loop-place.firsts) =
           noted_none c.args.events.now c.args.from c.loop-place.place c.args.to c.loop-place.firsts c.index-events-place.result c.oldest.result
           c.loop-place.invariant.firsts c.loop-place.invariant.none after within c.loop-place-test.true c.index-events-place.is c.oldest.ensures w.if-oldest-to.false in
           record {
-            firsts = subst (λ z. IsFirsts c.args.events.now c.args.from (c.loop-place.place + 1) c.args.to (first_at z)) (sym w.firsts-is) made;
+            firsts = subst (λ z. AreOldestEventPlaces c.args.events.now c.args.from (c.loop-place.place + 1) c.args.to (oldest_place_of_node z)) (sym w.firsts-is) made;
             none = subst (λ z. z.none ≡ c.args.to) (sym w.firsts-is) c.loop-place.invariant.none;
           })
     ]

@@ -1,4 +1,4 @@
-use Rattle.ga_causal.proofs.Oldest.{none_marked}
+use Rattle.ga_causal.proofs.OldestEventPlaces.{none_marked}
 use Rattle.ga_causal.proofs.nodes.NodeSet.none.Goals as goal
 
 pub returns : goal.returns

@@ -10,14 +10,14 @@ returns-in-Message c = (
   λ h. refl,
 )
 
-pub returns-in-Part : goal.returns-in-Part
-returns-in-Part c = (
+pub returns-in-PartialMessage : goal.returns-in-PartialMessage
+returns-in-PartialMessage c = (
   λ t. let f : false ≡ true = t in absurd (cc),
-  λ h. absurd (h (subst IsMessagePrefix (c.as_slice.ensures.value ∙ c.self.view_is) c.in-Part.ensures)),
+  λ h. absurd (h (subst IsMessagePrefix (c.as_slice.ensures.value ∙ c.self.view_is) c.in-PartialMessage.ensures)),
 )
 
-pub returns-in-Wrong : goal.returns-in-Wrong
-returns-in-Wrong c = (
-  λ t b. never_begun c.as_slice.result.now c.in-Wrong.ensures.0 (subst IsMessagePrefix (sym (c.as_slice.ensures.value ∙ c.self.view_is)) b),
+pub returns-in-NoMessage : goal.returns-in-NoMessage
+returns-in-NoMessage c = (
+  λ t b. never_begun c.as_slice.result.now c.in-NoMessage.ensures.0 (subst IsMessagePrefix (sym (c.as_slice.ensures.value ∙ c.self.view_is)) b),
   λ h. refl,
 )

@@ -1,5 +1,5 @@
 use Rattle.std.proofs.Common.{rules, subst}
-use Rattle.ga_console.specs.Session.{AnswersOrQuits, EndsSessionAtNoAnswer}
+use Rattle.ga_console.specs.Session.{AnswersOrQuitsLine, NeverAnswersAndEnds}
 use Rattle.ga_console.proofs.Ending.{answers_or_ends}
 use Rattle.ga_explorer.specs.Answers.{AnswersExplorerLine}
 use Rattle.ga_explorer.specs.Opening.{ExplorerState}
@@ -10,11 +10,11 @@ pub returns : goal.returns
 returns g c = (
   search rules,
   λ before said h.
-      let new = explorer_state c.answer_line.new.lab c.self.inside.notes in
-      let done = c.answer_line.ensures.1 before said h in (
+      let new = explorer_state c.answer_explorer_line.new.lab c.self.inside.notes in
+      let done = c.answer_explorer_line.ensures.1 before said h in (
         done.0,
-        answers_or_ends AnswersExplorerLine EndsSessionAtNoAnswer c.args.self.now new done.0 c.args.line.now c.answer_line.result
-            (subst (λ (s : ExplorerState). AnswersOrQuits AnswersExplorerLine s c.args.line.now new c.answer_line.result done.0) c.self.view_is done.1),
+        answers_or_ends AnswersExplorerLine NeverAnswersAndEnds c.args.self.now new done.0 c.args.line.now c.answer_explorer_line.result
+            (subst (λ (s : ExplorerState). AnswersOrQuitsLine AnswersExplorerLine s c.args.line.now new c.answer_explorer_line.result done.0) c.self.view_is done.1),
         done.2,
       ),
 )

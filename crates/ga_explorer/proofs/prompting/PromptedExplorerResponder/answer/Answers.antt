@@ -2,9 +2,9 @@ use Rattle.std.proofs.Common.{ℕ, List, ◌++◌, ◌∙◌, inl}
 use Rattle.std.specs.Prelude.{Result}
 use Rattle.ga_text.specs.declared.output.WriteError.{WriteError}
 use Rattle.ga_text.proofs.WriteLemmas.{at_err, truncated_here, said_assoc, cut_assoc}
-use Rattle.ga_console.specs.inner.Run.{AnswersOrEnds}
+use Rattle.ga_console.specs.inner.Run.{AnswersLineOrEnds}
 use Rattle.ga_console.specs.declared.responder.LineAction.{LineAction}
-use Rattle.ga_explorer.specs.Session.{prompt}
+use Rattle.ga_explorer.specs.Session.{prompt_text}
 use Rattle.ga_explorer.proofs.Prompted.{AnswersPrompted, EndsPrompted, on, prompted_line, ended_line, line_err, quit_turn}
 use Rattle.ga_explorer.proofs.prompting.PromptedExplorerResponder.answer.Goals as goal
 
@@ -38,13 +38,13 @@ returns-in_err-write_prompt-in-Answered g c = (
   λ before said h.
       let turn = rw c.in-Answered.is at (c.in_ok-answer.ensures.1 before said h) in
       let told = c.in_err-write_prompt-in-Answered.ensures.1 before (said ++ turn.0) turn.2 in
-      let text : List ℕ = turn.0 ++ prompt c.args.self.now.is_prompted in (
+      let text : List ℕ = turn.0 ++ prompt_text c.args.self.now.is_prompted in (
         text,
-        at_err (λ (r : Result LineAction WriteError). AnswersOrEnds AnswersPrompted EndsPrompted c.args.self.now c.args.line.now (on c.args.self.now c.answer.new.self) r text)
+        at_err (λ (r : Result LineAction WriteError). AnswersLineOrEnds AnswersPrompted EndsPrompted c.args.self.now c.args.line.now (on c.args.self.now c.answer.new.self) r text)
             c.from_residual-in_err-write_prompt-in-Answered.result c.from_residual-in_err-write_prompt-in-Answered.ensures.0
             (λ why. inl (prompted_line c.args.self.now c.answer.new.self c.args.line.now turn.0 turn.1)),
         truncated_here c.from_residual-in_err-write_prompt-in-Answered.result _ before (said ++ text) _ c.from_residual-in_err-write_prompt-in-Answered.ensures.0
-            (cut_assoc _ before said turn.0 (prompt c.args.self.now.is_prompted) told),
+            (cut_assoc _ before said turn.0 (prompt_text c.args.self.now.is_prompted) told),
       ),
 )
 
@@ -54,8 +54,8 @@ returns-in_ok-write_prompt-in-Answered g c = (
   λ before said h.
       let turn = rw c.in-Answered.is at (c.in_ok-answer.ensures.1 before said h) in
       let told = c.in_ok-write_prompt-in-Answered.ensures.1 before (said ++ turn.0) turn.2 in (
-        turn.0 ++ prompt c.args.self.now.is_prompted,
+        turn.0 ++ prompt_text c.args.self.now.is_prompted,
         prompted_line c.args.self.now c.answer.new.self c.args.line.now turn.0 turn.1,
-        said_assoc _ before said turn.0 (prompt c.args.self.now.is_prompted) _ told,
+        said_assoc _ before said turn.0 (prompt_text c.args.self.now.is_prompted) _ told,
       ),
 )

@@ -44,8 +44,8 @@ returns g c = (
       let line : List ℕ = c.as_slice.result.now in
       let tail = step_suffix_text notes s c.args.self.now.node c.args.decision.step in
       let row = indented_value_text notes s c.args.decision.source in
-      text_as c.write_source_line.result _ before said ((line ++ tail) ++ row) (decision_text notes s c.args.self.now.node c.args.decision) _
+      text_as c.write_indented_value_line.result _ before said ((line ++ tail) ++ row) (decision_text notes s c.args.self.now.node c.args.decision) _
       (append_assoc line tail row ∙ ap (λ (z : List ℕ). z ++ (tail ++ row)) (c.as_slice.ensures.value ∙ c.decided_line.ensures))
-      (joined_written c.write_source_line.result _ before said (line ++ tail) row _ (c.write_source_line.ensures.1 before (said ++ (line ++ tail))
+      (joined_written c.write_indented_value_line.result _ before said (line ++ tail) row _ (c.write_indented_value_line.ensures.1 before (said ++ (line ++ tail))
       (said_assoc _ before said line tail _ (c.in_ok-write_step_suffix.ensures.1 before (said ++ line) (c.in_ok-write_blocks.ensures.1 before said h))))),
 )

@@ -26,6 +26,6 @@ returns g c = (
       let line : List ℕ = c.as_slice.result.now in (
         line ++ tail,
         ap (λ (t : List ℕ). t ++ tail) (c.as_slice.ensures.value ∙ c.head_line.ensures ∙ ap (step_action_text c.args.self.now.lab.now c.args.self.now.node) c.step.ensures.value),
-        joined_written c.write_own_suffix.result _ before said line tail _ (c.write_own_suffix.ensures.1 before (said ++ line) (c.in_ok-write_blocks.ensures.1 before said h)),
+        joined_written c.write_current_step_suffix.result _ before said line tail _ (c.write_current_step_suffix.ensures.1 before (said ++ line) (c.in_ok-write_blocks.ensures.1 before said h)),
       ),
 )

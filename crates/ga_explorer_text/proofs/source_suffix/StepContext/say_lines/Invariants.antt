@@ -1,6 +1,6 @@
 use Rattle.std.proofs.Common.{◌≡◌, ◌+◌, ℕ, List, drop}
-use Rattle.ga_text.specs.Output.{IsTextWritten}
-use Rattle.ga_explorer_text.specs.Whence.{numbered_lines_text}
+use Rattle.ga_text.specs.Output.{IsTextWrittenOrPending}
+use Rattle.ga_explorer_text.specs.Whence.{numbered_provenance_lines_text}
 use Rattle.ga_explorer_text.proofs.Saying.{IsWrittenUpTo}
 use Rattle.ga_explorer_text.proofs.source_suffix.StepContext.say_lines.Given as goal
 
@@ -10,7 +10,7 @@ invariant-lines g l = record {
   notes : l.here.notes.now ≡ l.self.notes.now;
   number : l.number ≡ l.skipped + l.line-index;
   same : l.writer.stream.ghost_name ≡ l.fn.writer.stream.ghost_name;
-  said : (before said : List ℕ) → IsTextWritten (g.W.Write.contents l.fn.writer.stream.now) before said l.fn.writer.pending.items
-      → IsWrittenUpTo (g.W.Write.contents l.writer.stream.now) before said (numbered_lines_text l.self.notes.now l.self.lab.now l.is_moved l.skipped l.lines)
-      (numbered_lines_text l.self.notes.now l.self.lab.now l.is_moved l.number (drop l.line-index l.lines)) l.writer.pending.items;
+  said : (before said : List ℕ) → IsTextWrittenOrPending (g.W.Write.contents l.fn.writer.stream.now) before said l.fn.writer.pending.items
+      → IsWrittenUpTo (g.W.Write.contents l.writer.stream.now) before said (numbered_provenance_lines_text l.self.notes.now l.self.lab.now l.is_moved l.skipped l.lines)
+      (numbered_provenance_lines_text l.self.notes.now l.self.lab.now l.is_moved l.number (drop l.line-index l.lines)) l.writer.pending.items;
 }

@@ -41,7 +41,7 @@ returns g c = (
       let k : ℕ = c.walk_back_to.new.self.step in
       let is : k ≡ c.args.step = ap (λ (z : NodeAtStep). z.step) c.walk_back_to.ensures in
       let tail = step_suffix_text notes s node k in
-      text_as c.write_own_suffix.result _ before said (line ++ tail) (numbered_step_text notes s node (c.args.step - 1)) _
+      text_as c.write_current_step_suffix.result _ before said (line ++ tail) (numbered_step_text notes s node (c.args.step - 1)) _
       (ap (λ (t : List ℕ). t ++ tail) (c.as_slice.ensures.value ∙ c.place_line.ensures) ∙ placed notes s node k c.args.step is c.requires.some)
-      (joined_written c.write_own_suffix.result _ before said line tail _ (c.write_own_suffix.ensures.1 before (said ++ line) (c.in_ok-write_blocks.ensures.1 before said h))),
+      (joined_written c.write_current_step_suffix.result _ before said line tail _ (c.write_current_step_suffix.ensures.1 before (said ++ line) (c.in_ok-write_blocks.ensures.1 before said h))),
 )

@@ -1,18 +1,18 @@
 use Rattle.std.proofs.Common.{◌<◌, subst, sym}
-use Rattle.ga_journal.specs.inner.Histories.{bound_of}
-use Rattle.ga_journal.specs.inner.Ends.{CanGoBack}
+use Rattle.ga_journal.specs.inner.Histories.{stamp_bound_of_history}
+use Rattle.ga_journal.specs.inner.Ends.{CanWriteBackLastEntry}
 use Rattle.ga_journal.proofs.Cutting.{history_read, popped_last, popped_others}
 use Rattle.ga_journal.proofs.histories.Histories.undo_last_entry.Goals as goal
 
 pub undo_last_entry-requires-clause-some : goal.undo_last_entry-requires-clause-some
 undo_last_entry-requires-clause-some c =
-    subst (λ z. 0 < bound_of z)
+    subst (λ z. 0 < stamp_bound_of_history z)
     (sym (history_read _ c.args.node.number c.at_mut-history.result.now (rw c.at_mut-history.ensures.size c.args.node.in_range) c.at_mut-history.ensures.value))
     c.requires.some
 
 pub undo_last_entry-requires-clause-can : goal.undo_last_entry-requires-clause-can
 undo_last_entry-requires-clause-can c =
-    subst (λ z. CanGoBack z c.args.chip.now c.args.node.number)
+    subst (λ z. CanWriteBackLastEntry z c.args.chip.now c.args.node.number)
     (sym (history_read _ c.args.node.number c.at_mut-history.result.now (rw c.at_mut-history.ensures.size c.args.node.in_range) c.at_mut-history.ensures.value))
     c.requires.can
 

@@ -2,12 +2,12 @@ use Rattle.std.proofs.Common.{◌≡◌, ℕ, ◌+◌, ◌-◌, ◌∙◌, Some,
 use Rattle.std.specs.Prelude.{slice_get}
 use Rattle.std.proofs.lemmas.List.{drop_all, take_all}
 use Rattle.ga_node.specs.Record.{NodeState}
-use Rattle.ga_node.specs.State.{with_restored_values, with_suspended_status, HasAtMostOneStatus}
+use Rattle.ga_node.specs.State.{node_with_restored_values, node_with_resumed_status, HasAtMostOneStatus}
 use Rattle.ga_event.specs.Undo.{CanRestoreNode}
 use Rattle.ga_journal.specs.declared.entry.Entry.{Entry}
 use Rattle.ga_journal.specs.Histories.{EntryRecord}
-use Rattle.ga_journal.specs.inner.Histories.{Held}
-use Rattle.ga_journal.specs.inner.Stored.{past_in}
+use Rattle.ga_journal.specs.inner.Histories.{HeldNodeHistory}
+use Rattle.ga_journal.specs.inner.Stored.{entry_record_of_entry}
 use Rattle.ga_journal.specs.Walked.{node_before_entries}
 use Rattle.ga_journal.proofs.Storing.{slice_length, longer, left_before, read_last_left}
 use Rattle.ga_journal.proofs.Walks.{walked_one, can_one, can_later, walked_apart}
@@ -23,15 +23,15 @@ slice_is c =
     ∙ ap (λ (z : List Entry). take (c.args.from - c.args.to) (drop c.args.to z)) c.deref.ensures.value
 
 -- the entry of a turn
-found : (c : In-Some) → slice_get (take c.args.from c.args.self.now.items) (c.args.to + length c.next.new.self.iter.rest.now) ≡ Some (past_in c.self.inside.passes.items c.in-Some.entry.now)
+found : (c : In-Some) → slice_get (take c.args.from c.args.self.now.items) (c.args.to + length c.next.new.self.iter.rest.now) ≡ Some (entry_record_of_entry c.self.inside.passes.items c.in-Some.entry.now)
 found c =
     read_last_left c.self.inside.passes.items c.self.inside.entries.items c.into_iter-entry-iterator.result.iter.rest.now c.loop-entry.entry-iterator.iter.rest.now c.next.new.self.iter.rest.now c.args.self.now.items c.args.from c.args.to c.in-Some.entry.now
-    (sym (ap (λ (held : Held). held.items) c.self.view_is)) c.requires.order c.requires.within (slice_is (goal.at.In-Some c).After-into_iter-entry-iterator) c.loop-entry.invariant.rest c.in-Some.ensures.steps
+    (sym (ap (λ (held : HeldNodeHistory). held.items) c.self.view_is)) c.requires.order c.requires.within (slice_is (goal.at.In-Some c).After-into_iter-entry-iterator) c.loop-entry.invariant.rest c.in-Some.ensures.steps
 
 pub loop-entry-init : goal.loop-entry-init
 loop-entry-init c =
     let slice : List Entry = c.into_iter-entry-iterator.result.iter.rest.now in
-    let some : length slice ≡ c.args.from - c.args.to = slice_length c.self.inside.passes.items c.self.inside.entries.items slice c.args.self.now.items c.args.from c.args.to (sym (ap (λ (held : Held). held.items) c.self.view_is)) c.requires.within (slice_is c) in
+    let some : length slice ≡ c.args.from - c.args.to = slice_length c.self.inside.passes.items c.self.inside.entries.items slice c.args.self.now.items c.args.from c.args.to (sym (ap (λ (held : HeldNodeHistory). held.items) c.self.view_is)) c.requires.within (slice_is c) in
     record {
       rest = sym (take_all (length slice) slice (omega arith));
       back = c.suspend_status-aside.ensures.same ∙ sym (ap (node_before_entries c.args.node.now) (drop_all (c.args.to + length slice) (take c.args.from c.args.self.now.items) (let long = length-take c.args.from c.args.self.now.items in omega (arith, long, some, c.requires.order))));
@@ -43,7 +43,7 @@ pub write_back-requires-clause-fit : goal.write_back-requires-clause-fit
 write_back-requires-clause-fit c =
     let h = take c.args.from c.args.self.now.items in
     let at : ℕ = c.args.to + length c.next.new.self.iter.rest.now in
-    let e : EntryRecord = past_in c.self.inside.passes.items c.in-Some.entry.now in
+    let e : EntryRecord = entry_record_of_entry c.self.inside.passes.items c.in-Some.entry.now in
     let can : CanRestoreNode (node_before_entries c.args.node.now (drop (at + 1) h)) e.saved = can_one c.args.node.now h at e (found (goal.at.write_back-requires-clause-fit c).In-Some) (can_later c.args.node.now h c.args.to at (omega arith) c.requires.can) in
     can.fit
 
@@ -54,21 +54,21 @@ loop-entry-preserved c =
     let left : List Entry = c.loop-entry.entry-iterator.iter.rest.now in
     let rest : List Entry = c.next.new.self.iter.rest.now in
     let at : ℕ = c.args.to + length rest in
-    let e : EntryRecord = past_in c.self.inside.passes.items c.in-Some.entry.now in
+    let e : EntryRecord = entry_record_of_entry c.self.inside.passes.items c.in-Some.entry.now in
     let long : length left ≡ length rest + 1 = longer left rest c.in-Some.entry.now c.in-Some.ensures.steps in
-    let here : with_suspended_status c.loop-entry.node c.loop-entry.aside ≡ node_before_entries c.args.node.now (drop (at + 1) h) = c.loop-entry.invariant.back ∙ ap (λ k. node_before_entries c.args.node.now (drop k h)) (let q : c.args.to + length left ≡ at + 1 = omega (arith, long) in q) in
+    let here : node_with_resumed_status c.loop-entry.node c.loop-entry.aside ≡ node_before_entries c.args.node.now (drop (at + 1) h) = c.loop-entry.invariant.back ∙ ap (λ k. node_before_entries c.args.node.now (drop k h)) (let q : c.args.to + length left ≡ at + 1 = omega (arith, long) in q) in
     record {
       rest = left_before slice left rest c.in-Some.entry.now c.loop-entry.invariant.rest c.in-Some.ensures.steps;
       back =
           c.write_back.ensures.back
-          ∙ ap (λ (z : NodeState). with_restored_values z e.saved) here
+          ∙ ap (λ (z : NodeState). node_with_restored_values z e.saved) here
           ∙ sym (walked_one c.args.node.now h at e (found (goal.at.loop-entry-preserved c).In-Some));
       cleared = c.write_back.ensures.cleared;
       in_range = c.write_back.ensures.in_range;
     }
 
 -- the walk has come down to its end
-at_end : (c : In-None) → with_suspended_status c.loop-entry.node c.loop-entry.aside ≡ node_before_entries c.args.node.now (drop c.args.to (take c.args.from c.args.self.now.items))
+at_end : (c : In-None) → node_with_resumed_status c.loop-entry.node c.loop-entry.aside ≡ node_before_entries c.args.node.now (drop c.args.to (take c.args.from c.args.self.now.items))
 at_end c =
     let none = c.in-None.ensures.steps.0 in
     c.loop-entry.invariant.back

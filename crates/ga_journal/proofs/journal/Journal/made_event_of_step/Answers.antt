@@ -1,9 +1,9 @@
 use Rattle.std.proofs.Common.{◌∙◌, sym, ap, subst, arith}
 use Rattle.std.specs.Prelude.{slice_get}
 use Rattle.ga_journal.specs.Histories.{JournalState, history}
-use Rattle.ga_journal.specs.inner.Histories.{lists_of}
-use Rattle.ga_journal.specs.inner.Marks.{entries_made}
-use Rattle.ga_journal.specs.Logs.{AreConsistentHistories}
+use Rattle.ga_journal.specs.inner.Histories.{entry_lists_of_histories}
+use Rattle.ga_journal.specs.inner.Marks.{made_events_of_entries}
+use Rattle.ga_journal.specs.Logs.{AreHistoriesOfSomeLog}
 use Rattle.ga_journal.proofs.Keeping.{fits}
 use Rattle.ga_journal.proofs.Telling.{ats_log, mades_log}
 use Rattle.ga_journal.proofs.journal.Journal.made_event_of_step.Goals as goal
@@ -13,10 +13,10 @@ made_of-requires-clause-fits c = fits c.self.inside.histories c.self.inside.top 
 
 pub made_of-requires-clause-ats : goal.made_of-requires-clause-ats
 made_of-requires-clause-ats c =
-    let whole : AreConsistentHistories (lists_of c.self.inside.histories) c.self.inside.made = subst (λ (b : JournalState). AreConsistentHistories b.histories b.made) (sym c.self.view_is) c.requires in
-    ats_log (lists_of c.self.inside.histories) c.self.inside.made c.self.inside.kept _ c.args.node.number whole c.self.invariant.keeps.count (omega (arith, c.self.invariant.keeps.within, c.self.invariant.keeps.fits))
+    let whole : AreHistoriesOfSomeLog (entry_lists_of_histories c.self.inside.histories) c.self.inside.made = subst (λ (b : JournalState). AreHistoriesOfSomeLog b.histories b.made) (sym c.self.view_is) c.requires in
+    ats_log (entry_lists_of_histories c.self.inside.histories) c.self.inside.made c.self.inside.kept _ c.args.node.number whole c.self.invariant.keeps.count (omega (arith, c.self.invariant.keeps.within, c.self.invariant.keeps.fits))
 
 pub returns : goal.returns
 returns c =
-    let same = ap (λ (b : JournalState). entries_made c.args.node 0 (history b.histories c.args.node.number)) c.self.view_is ∙ mades_log c.args.self.now c.args.node c.requires in
+    let same = ap (λ (b : JournalState). made_events_of_entries c.args.node 0 (history b.histories c.args.node.number)) c.self.view_is ∙ mades_log c.args.self.now c.args.node c.requires in
     c.made_of.ensures ∙ ap (λ z. slice_get z c.args.place) same

@@ -1,9 +1,9 @@
 use Rattle.std.proofs.Common.{◌≡◌, ◌∙◌, ◌<◌, ℕ, length, map, Some, All, IfOk, ap, sym, subst}
 use Rattle.ga_event.specs.Told.{made_event_at_place}
 use Rattle.ga_journal.specs.Histories.{JournalState}
-use Rattle.ga_journal.specs.inner.Histories.{lists_of}
-use Rattle.ga_journal.specs.Events.{kept_outcomes}
-use Rattle.ga_journal.specs.Logs.{AreConsistentHistories}
+use Rattle.ga_journal.specs.inner.Histories.{entry_lists_of_histories}
+use Rattle.ga_journal.specs.Events.{kept_events_with_outcomes}
+use Rattle.ga_journal.specs.Logs.{AreHistoriesOfSomeLog}
 use Rattle.ga_journal.proofs.Keeping.{fits}
 use Rattle.ga_journal.proofs.Down.{placed}
 use Rattle.ga_journal.proofs.Recalling.{WalkOf, walk_of}
@@ -14,15 +14,15 @@ recall_all-requires-clause-fits c n = fits c.self.inside.histories c.self.inside
 
 pub recall_all-requires-clause-walk : goal.recall_all-requires-clause-walk
 recall_all-requires-clause-walk c =
-    let whole : AreConsistentHistories (lists_of c.self.inside.histories) c.self.inside.made = subst (λ (b : JournalState). AreConsistentHistories b.histories b.made) (sym c.self.view_is) c.requires.whole in
+    let whole : AreHistoriesOfSomeLog (entry_lists_of_histories c.self.inside.histories) c.self.inside.made = subst (λ (b : JournalState). AreHistoriesOfSomeLog b.histories b.made) (sym c.self.view_is) c.requires.whole in
     let w : WalkOf c.self.inside.histories c.self.inside.top c.self.inside.made c.self.inside.kept = walk_of c.self.inside.histories c.self.inside.top c.self.inside.made c.self.inside.kept c.self.inside.limit c.self.invariant.keeps whole in
     (w.log, w.long, w.below)
 
 pub returns-clause-ok : goal.returns-clause-ok
 returns-clause-ok c =
-    let whole : AreConsistentHistories (lists_of c.self.inside.histories) c.self.inside.made = subst (λ (b : JournalState). AreConsistentHistories b.histories b.made) (sym c.self.view_is) c.requires.whole in
+    let whole : AreHistoriesOfSomeLog (entry_lists_of_histories c.self.inside.histories) c.self.inside.made = subst (λ (b : JournalState). AreHistoriesOfSomeLog b.histories b.made) (sym c.self.view_is) c.requires.whole in
     let w : WalkOf c.self.inside.histories c.self.inside.top c.self.inside.made c.self.inside.kept = walk_of c.self.inside.histories c.self.inside.top c.self.inside.made c.self.inside.kept c.self.inside.limit c.self.invariant.keeps whole in
-    let count : length (kept_outcomes c.args.self.now) ≡ c.self.inside.kept = ap (λ (b : JournalState). length (kept_outcomes b)) (sym c.self.view_is) ∙ sym c.self.invariant.keeps.count in
-    subst (λ (b : JournalState). IfOk c.recall_all.result (λ list. map Some list.items ≡ map (made_event_at_place (kept_outcomes b)) c.args.places.now)) c.self.view_is
+    let count : length (kept_events_with_outcomes c.args.self.now) ≡ c.self.inside.kept = ap (λ (b : JournalState). length (kept_events_with_outcomes b)) (sym c.self.view_is) ∙ sym c.self.invariant.keeps.count in
+    subst (λ (b : JournalState). IfOk c.recall_all.result (λ list. map Some list.items ≡ map (made_event_at_place (kept_events_with_outcomes b)) c.args.places.now)) c.self.view_is
     (placed c.recall_all.result c.self.inside.histories c.self.inside.top c.self.inside.made c.self.inside.kept c.args.places.now w
     (subst (λ (n : ℕ). All (λ (place : ℕ). place < n) c.args.places.now) count c.requires.within) c.recall_all.ensures.ok)

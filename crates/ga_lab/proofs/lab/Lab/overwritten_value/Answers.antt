@@ -1,10 +1,10 @@
 use Rattle.std.proofs.Common.{◌≡◌, ℕ, ◌+◌, ◌<◌, take, sym, ◌∙◌, subst}
 use Rattle.std.specs.Prelude.{IfSome, IfNone}
-use Rattle.ga_grid.specs.Chip.{record_at}
+use Rattle.ga_grid.specs.Chip.{node_record_at}
 use Rattle.ga_event.specs.Told.{count_steps}
-use Rattle.ga_lab.specs.Machine.{State, chip_of, earlier_state}
-use Rattle.ga_lab.specs.Holding.{HoldsValue}
-use Rattle.ga_node.specs.Record.{NodeState, HasListSizes, record_of}
+use Rattle.ga_lab.specs.Machine.{MachineState, chip_of_machine, earlier_state}
+use Rattle.ga_lab.specs.Holding.{HoldsPlaceValue}
+use Rattle.ga_node.specs.Record.{NodeState, HasValidListSizes, record_of_node}
 use Rattle.ga_lab.proofs.Overwritten.{if_some, if_none, old_is, old_in_range, old_within, stays_there}
 use Rattle.ga_lab.proofs.lab.Lab.overwritten_value.Goals as goal
 
@@ -13,9 +13,9 @@ returns-clause-value c =
     let chip = c.self.inside.chip in
     let book = c.self.inside.chronicle.journal in
     let n = c.args.node.number in
-    let sizes = subst (λ (z : NodeState). HasListSizes (record_of z)) c.node.ensures.value c.has_sizes.ensures in
+    let sizes = subst (λ (z : NodeState). HasValidListSizes (record_of_node z)) c.node.ensures.value c.has_valid_list_sizes.ensures in
     subst
-    (λ (s : State). IfSome c.overwritten_value.result (λ old. (place : ℕ) → count_steps n (take place s.kept) ≡ c.args.at → HoldsValue (record_at (chip_of (earlier_state s place)) n) c.args.what old)) c.self.view_is
+    (λ (s : MachineState). IfSome c.overwritten_value.result (λ old. (place : ℕ) → count_steps n (take place s.kept) ≡ c.args.at → HoldsPlaceValue (node_record_at (chip_of_machine (earlier_state s place)) n) c.args.what old)) c.self.view_is
     (if_some c.overwritten_value.result _ (λ old is place so_many. old_is chip book n c.args.at old place c.args.what c.self.invariant.tied sizes (sym c.overwritten_value.ensures ∙ is) so_many))
 
 pub returns-clause-in_range : goal.returns-clause-in_range
@@ -28,7 +28,7 @@ returns-clause-within c =
     let chip = c.self.inside.chip in
     let book = c.self.inside.chronicle.journal in
     let n = c.args.node.number in
-    subst (λ (s : State). IfSome c.overwritten_value.result (λ old. c.args.at < count_steps n s.kept)) c.self.view_is
+    subst (λ (s : MachineState). IfSome c.overwritten_value.result (λ old. c.args.at < count_steps n s.kept)) c.self.view_is
     (if_some c.overwritten_value.result _ (λ old is. old_within chip book n c.args.at old c.args.what c.self.invariant.tied (sym c.overwritten_value.ensures ∙ is)))
 
 pub returns-clause-left : goal.returns-clause-left
@@ -37,9 +37,9 @@ returns-clause-left c =
     let book = c.self.inside.chronicle.journal in
     let n = c.args.node.number in
     subst
-    (λ (s : State). IfNone c.overwritten_value.result
+    (λ (s : MachineState). IfNone c.overwritten_value.result
     ((before behind value : ℕ) → count_steps n (take before s.kept) ≡ c.args.at → count_steps n (take behind s.kept) ≡ c.args.at + 1
-    → HoldsValue (record_at (chip_of (earlier_state s behind)) n) c.args.what value → HoldsValue (record_at (chip_of (earlier_state s before)) n) c.args.what value)) c.self.view_is
+    → HoldsPlaceValue (node_record_at (chip_of_machine (earlier_state s behind)) n) c.args.what value → HoldsPlaceValue (node_record_at (chip_of_machine (earlier_state s before)) n) c.args.what value)) c.self.view_is
     (if_none c.overwritten_value.result _
     (λ is before behind value first second held.
     stays_there chip book n c.args.at before behind value c.args.what c.self.invariant.tied (sym c.overwritten_value.ensures ∙ is) first second held))

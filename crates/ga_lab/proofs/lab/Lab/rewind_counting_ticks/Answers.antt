@@ -4,8 +4,8 @@ use Rattle.ga_lab.specs.declared.fault.LabFault.TheVariants.{NoStep}
 use Rattle.std.specs.Prelude.{Result, ℕ, OnErr}
 use Rattle.ga_journal.specs.Histories.{RollbackWork, no_rollback_work, rollback_work_sum, JournalState}
 use Rattle.ga_rollback.specs.declared.rollback.RollbackFault.{RollbackFault}
-use Rattle.ga_journal.specs.Events.{kept_outcomes}
-use Rattle.ga_lab.specs.Machine.{State, has_step, state_after_rewind, rewind_answer, HasBoundedTicks}
+use Rattle.ga_journal.specs.Events.{kept_events_with_outcomes}
+use Rattle.ga_lab.specs.Machine.{MachineState, has_step, state_after_rewind, rewind_answer, HasBoundedTicks}
 use Rattle.ga_lab.specs.inner.LabInvariant.{IsLab, state_of}
 use Rattle.ga_lab.proofs.Rewinding.{only_fault, stands_yes, stands_no, entries_fit, lab_rolled, state_rolled_back, answer_rolled_back, state_refused, answer_refused, lab_anew, state_anew, rest_exact, bounded_by, ticks_within, on_ok, on_err}
 use Rattle.ga_lab.proofs.lab.Lab.rewind_counting_ticks.Goals.{in-Ok, in-Err-NoStep}
@@ -15,8 +15,8 @@ pub rewind-requires-clause-fits : goal.rewind-requires-clause-fits
 rewind-requires-clause-fits c =
     let book = c.reset_ticks.new.self.journal in
     let lab = lab_anew c.self.inside.chip c.self.inside.chronicle.journal book c.reset_ticks.ensures c.self.invariant in
-    let short : length (kept_outcomes c.self.inside.chronicle.journal) < 4294967296 = (let v = c.kept-kept.ensures.value in let r : c.kept-kept.result < 4294967296 = c.kept-kept.type_inv in omega arith) in
-    let same : length (kept_outcomes book) ≡ length (kept_outcomes c.self.inside.chronicle.journal) = ap (λ (b : JournalState). length (kept_outcomes b)) c.reset_ticks.ensures in
+    let short : length (kept_events_with_outcomes c.self.inside.chronicle.journal) < 4294967296 = (let v = c.kept-kept.ensures.value in let r : c.kept-kept.result < 4294967296 = c.kept-kept.type_inv in omega arith) in
+    let same : length (kept_events_with_outcomes book) ≡ length (kept_events_with_outcomes c.self.inside.chronicle.journal) = ap (λ (b : JournalState). length (kept_events_with_outcomes b)) c.reset_ticks.ensures in
     let none : book.ticks.count ≡ 0 = ap (λ (b : JournalState). b.ticks.count) c.reset_ticks.ensures in
     let a = entries_fit c.self.inside.chip book lab (omega arith) in
     omega arith
@@ -31,8 +31,8 @@ pub add-requires : goal.add-requires
 add-requires c =
     let book = c.reset_ticks.new.self.journal in
     let lab = lab_anew c.self.inside.chip c.self.inside.chronicle.journal book c.reset_ticks.ensures c.self.invariant in
-    let short : length (kept_outcomes c.self.inside.chronicle.journal) < 4294967296 = (let v = c.kept-kept.ensures.value in let r : c.kept-kept.result < 4294967296 = c.kept-kept.type_inv in omega arith) in
-    let same : length (kept_outcomes book) ≡ length (kept_outcomes c.self.inside.chronicle.journal) = ap (λ (b : JournalState). length (kept_outcomes b)) c.reset_ticks.ensures in
+    let short : length (kept_events_with_outcomes c.self.inside.chronicle.journal) < 4294967296 = (let v = c.kept-kept.ensures.value in let r : c.kept-kept.result < 4294967296 = c.kept-kept.type_inv in omega arith) in
+    let same : length (kept_events_with_outcomes book) ≡ length (kept_events_with_outcomes c.self.inside.chronicle.journal) = ap (λ (b : JournalState). length (kept_events_with_outcomes b)) c.reset_ticks.ensures in
     let none : book.ticks ≡ no_rollback_work = ap (λ (b : JournalState). b.ticks) c.reset_ticks.ensures in
     let a = ticks_within book c.rewind.new.journal c.in-Ok.ensures.tick_counted none (entries_fit c.self.inside.chip book lab (omega arith)) in
     let b : c.ticks.result.now.count ≡ c.rewind.new.journal.ticks.count = ap (λ (w : RollbackWork). w.count) c.ticks.ensures in
@@ -86,10 +86,10 @@ returns-clause-refused c =
       | in-Ok w ↦ (
         λ e. let q : Ok w.in-Ok.removed ≡ Err NoStep = sym w.result-is ∙ e in absurd (cc),
         λ f. absurd (both_ways (has_step c.args.self.now c.args.node.number c.args.step) f
-            (ap (λ (s : State). has_step s c.args.node.number c.args.step) (sym view) ∙ stands_yes c.self.inside.chip book c.args.node.number c.args.step w.in-Ok.ensures.ok.stands)),
+            (ap (λ (s : MachineState). has_step s c.args.node.number c.args.step) (sym view) ∙ stands_yes c.self.inside.chip book c.args.node.number c.args.step w.in-Ok.ensures.ok.stands)),
       )
       | in-Err-NoStep w ↦ (
-        λ e. ap (λ (s : State). has_step s c.args.node.number c.args.step) (sym view) ∙ stands_no c.self.inside.chip book c.args.node.number c.args.step (w.in-Err-NoStep.ensures.refused.0 (ap (λ (f : RollbackFault). let r : Result ℕ RollbackFault = Err f in r) (only_fault w.in-Err-NoStep.field-0))),
+        λ e. ap (λ (s : MachineState). has_step s c.args.node.number c.args.step) (sym view) ∙ stands_no c.self.inside.chip book c.args.node.number c.args.step (w.in-Err-NoStep.ensures.refused.0 (ap (λ (f : RollbackFault). let r : Result ℕ RollbackFault = Err f in r) (only_fault w.in-Err-NoStep.field-0))),
         λ f. w.result-is,
       )
     ]
@@ -102,7 +102,7 @@ returns-clause-tick_counted c =
     let new = c.rewind.new.journal in
     let now = c.rewind.new.chip in
     let none : book.ticks ≡ no_rollback_work = ap (λ (b : JournalState). b.ticks) c.reset_ticks.ensures in
-    let Bounded : State → Type 0 = λ s.
+    let Bounded : MachineState → Type 0 = λ s.
     (work vain : ℕ) × (c.match-rewind.ticks.count ≡ c.args.ticks.now.count + work) × (c.match-rewind.ticks.vain ≡ c.args.ticks.now.vain + vain) × HasBoundedTicks s.kept (state_of now new).kept work vain in
     elim c.match-rewind.branch [
       | in-Ok w ↦

@@ -1,8 +1,8 @@
 use Rattle.std.proofs.Common.{Err, sym, ◌∙◌, ap, inl, inr}
 use Rattle.std.specs.Prelude.{Result, Option, List}
-use Rattle.ga_causal.specs.declared.chain.Link.{Link}
+use Rattle.ga_causal.specs.declared.chain.ChainLink.{ChainLink}
 use Rattle.ga_lab.specs.declared.fault.LabFault.{LabFault}
-use Rattle.ga_lab.specs.Machine.{causes_of}
+use Rattle.ga_lab.specs.Machine.{machine_events_with_looks}
 use Rattle.ga_lab.proofs.Explaining.{no_cause, no_effect, reasoned, why_refused, stands_counted}
 use Rattle.ga_lab.proofs.lab.Lab.why.Goals.{then-not-has_step-via-then-not-has_step, then-not-has_step-via-else-not-has_step+then-not-has_step-2}
 use Rattle.ga_lab.proofs.lab.Lab.why.Goals as goal
@@ -23,7 +23,7 @@ chain_since-requires-clause-counted c =
     stands_counted c.args.self.now c.args.to.0.number c.args.to.1 (sym c.has_step-else-not-has_step.ensures.value ∙ c.if-not-has_step-2.false)
 
 pub returns-in-Ok-clause-answer : goal.returns-in-Ok-clause-answer
-returns-in-Ok-clause-answer c = c.chain_since.ensures (causes_of c.args.self.now) c.args.from.0.number c.args.from.1 c.in-Ok.ensures.ok
+returns-in-Ok-clause-answer c = c.chain_since.ensures (machine_events_with_looks c.args.self.now) c.args.from.0.number c.args.from.1 c.in-Ok.ensures.ok
 
 pub returns-in-Ok-clause-refused : goal.returns-in-Ok-clause-refused
 returns-in-Ok-clause-refused c =
@@ -31,6 +31,6 @@ returns-in-Ok-clause-refused c =
 
 pub returns-in-Err-clause-answer : goal.returns-in-Err-clause-answer
 returns-in-Err-clause-answer c = inr (
-  ap (λ (f : LabFault). let r : Result (Option (List Link)) LabFault = Err f in r) c.in-Err.ensures.err,
+  ap (λ (f : LabFault). let r : Result (Option (List ChainLink)) LabFault = Err f in r) c.in-Err.ensures.err,
   reasoned c.args.self.now c.args.from.0.number c.args.from.1 c.args.to.0.number c.args.to.1 c.has_step.ensures.caused (sym c.has_step.ensures.value ∙ c.if-not-has_step.false) (sym c.has_step-else-not-has_step.ensures.value ∙ c.if-not-has_step-2.false),
 )

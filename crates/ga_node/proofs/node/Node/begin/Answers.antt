@@ -1,5 +1,5 @@
 use Rattle.std.proofs.Common.{◌++◌, ◌∷◌, [], ◌∙◌, ap, subst}
-use Rattle.ga_node.specs.declared.place.Place.TheVariants.{I}
+use Rattle.ga_node.specs.declared.place.NodePlace.TheVariants.{I}
 use Rattle.ga_node.specs.State.{IsPlaceValueInRange}
 use Rattle.ga_node.proofs.Saving.{saves_from, saves_begin}
 use Rattle.ga_node.proofs.node.Node.begin.Goals as goal

@@ -1,20 +1,20 @@
 use Rattle.std.proofs.Common.{refl, rules}
-use Rattle.ga_node.specs.Record.{record_of}
-use Rattle.ga_node.specs.Table.{effect}
-use Rattle.ga_node.specs.inner.Saving.{IsEnded}
+use Rattle.ga_node.specs.Record.{record_of_node}
+use Rattle.ga_node.specs.Table.{changes_or_event_of_opcode}
+use Rattle.ga_node.specs.inner.Saving.{IsReplacementEventMade}
 use Rattle.ga_slots.specs.declared.op.Op.TheVariants.{FetchB}
-use Rattle.ga_node.specs.State.{with_restored_values}
+use Rattle.ga_node.specs.State.{node_with_restored_values}
 use Rattle.ga_node.proofs.Saving.{made, saves_then, saves_from, ended_followed, done_followed}
 use Rattle.ga_node.proofs.node.Node.run_fetch_b.Goals as goal
 
 pub returns-in_err-word-clause-ended : goal.returns-in_err-word-clause-ended
 returns-in_err-word-clause-ended c =
-    let ended : IsEnded (effect FetchB c.args.seen (record_of c.args.self.now)) c.in_err-word.field-0.0 c.args.self.now c.read.new.self c.read.new.saved =
+    let ended : IsReplacementEventMade (changes_or_event_of_opcode FetchB c.args.seen (record_of_node c.args.self.now)) c.in_err-word.field-0.0 c.args.self.now c.read.new.self c.read.new.saved =
     ended_followed _ _ _ _ _ _ (rw (c.b-b.ensures.value) at c.in_err-word.ensures.ended) in
     search (rules, ended)
 
 pub returns-clause-done : goal.returns-clause-done
-unfolding with_restored_values
+unfolding node_with_restored_values
 returns-clause-done c =
     done_followed _ _ _ _ _ _ (rw (c.b-b.ensures.value) at c.in_ok-word.ensures.word)
     (made c.in_ok-word.ensures.unsaved (saves_then (saves_from c.in_ok-word.ensures.same c.push_data.ensures.saves) c.go_on.ensures.saves (λ n m. refl)) refl (search rules)

@@ -1,20 +1,20 @@
 use Rattle.std.proofs.Common.{refl, rules}
-use Rattle.ga_node.specs.Record.{record_of}
+use Rattle.ga_node.specs.Record.{record_of_node}
 use Rattle.ga_node.specs.Table.{opcode_effect}
-use Rattle.ga_node.specs.inner.Saving.{IsEndedBy}
+use Rattle.ga_node.specs.inner.Saving.{IsWriteReplacedByEvent}
 use Rattle.ga_slots.specs.declared.op.Op.TheVariants.{StorePlus}
-use Rattle.ga_node.specs.State.{with_restored_values}
+use Rattle.ga_node.specs.State.{node_with_restored_values}
 use Rattle.ga_node.proofs.Saving.{saves_as, saves_then, ended_followed, done_stored}
 use Rattle.ga_node.proofs.node.Node.run_store_plus.Goals as goal
 
 pub returns-in_err-write-clause-ended : goal.returns-in_err-write-clause-ended
 returns-in_err-write-clause-ended c =
-    let ended : IsEndedBy (opcode_effect StorePlus (record_of c.args.self.now)) c.in_err-write.field-0.0 c.args.self.now c.write.new.self c.write.new.saved =
+    let ended : IsWriteReplacedByEvent (opcode_effect StorePlus (record_of_node c.args.self.now)) c.in_err-write.field-0.0 c.args.self.now c.write.new.self c.write.new.saved =
     ended_followed _ _ _ _ _ _ (rw (c.get.ensures.value, c.a-a.ensures) at c.in_err-write.ensures.ended) in
     search (rules, ended)
 
 pub returns-clause-done : goal.returns-clause-done
-unfolding with_restored_values
+unfolding node_with_restored_values
 returns-clause-done c =
     done_stored _ _ _ _ _ _ _ _ (rw (c.get.ensures.value, c.a-a.ensures) at c.in_ok-write.ensures.done)
     (saves_as refl (saves_then (saves_then c.pop_data.ensures.saves c.set_a.ensures.saves (λ n m. refl)) c.go_on.ensures.saves (λ n m. refl)))

@@ -1,6 +1,6 @@
 use Rattle.std.proofs.Common.{◌≡◌, ◌+◌, ◌-◌, ◌*◌, ◌%◌, ◌/◌, ◌^◌, ◌∙◌, ap, get_or, drop, sym, subst, arith, Some}
 use Rattle.std.proofs.lemmas.List.{drop_all}
-use Rattle.ga_node.specs.inner.Packed.{unpacked, spare, IsWord}
+use Rattle.ga_node.specs.inner.Packed.{unpacked_place_value, spare, IsPackedWord}
 use Rattle.ga_node.proofs.Packing.{words_at, pair_of_six, seventh_is, spare_past, spare_part}
 use Rattle.ga_node.proofs.saved.Saved.word.Goals.{After-shared_slice_known-in-loop-k-1, After-loop-k}
 use Rattle.ga_node.proofs.saved.Saved.word.Goals as goal
@@ -67,8 +67,8 @@ overflow_sub-result c =
 pub returns-clause-pair : goal.returns-clause-pair
 returns-clause-pair c =
     (seventh_is c.self.inside.words.items c.args.self.now c.args.i c.len.result c.self.invariant c.self.view_is c.len.ensures.value c.len.ensures.fits c.if-i-len.false c.requires).3
-    ∙ ap (λ z. Some (unpacked (z - 2 ^ 32))) (sym (all c))
+    ∙ ap (λ z. Some (unpacked_place_value (z - 2 ^ 32))) (sym (all c))
 
 pub returns-clause-word : goal.returns-clause-word
 returns-clause-word c =
-    subst (λ z. IsWord (z - 2 ^ 32)) (sym (all c)) (seventh_is c.self.inside.words.items c.args.self.now c.args.i c.len.result c.self.invariant c.self.view_is c.len.ensures.value c.len.ensures.fits c.if-i-len.false c.requires).2
+    subst (λ z. IsPackedWord (z - 2 ^ 32)) (sym (all c)) (seventh_is c.self.inside.words.items c.args.self.now c.args.i c.len.result c.self.invariant c.self.view_is c.len.ensures.value c.len.ensures.fits c.if-i-len.false c.requires).2

@@ -1,10 +1,10 @@
 use Rattle.std.proofs.Common.{◌≡◌, ℕ, ◌<◌, length}
-use Rattle.ga_causal.specs.Dependence.{is_marked}
-use Rattle.ga_picture.specs.inner.{works_loose}
+use Rattle.ga_causal.specs.Dependence.{is_node_flagged}
+use Rattle.ga_picture.specs.inner.{works_independently}
 use Rattle.ga_picture.proofs.independent.NodeActivity.loose_nodes.Given as goal
 
 abbrev pub invariant-nodes : goal.invariant-nodes
 invariant-nodes l = record {
   size : length l.loose ≡ 144;
-  marked : (n : ℕ) → n < l.number → is_marked l.loose n ≡ works_loose l.self n;
+  marked : (n : ℕ) → n < l.number → is_node_flagged l.loose n ≡ works_independently l.self n;
 }

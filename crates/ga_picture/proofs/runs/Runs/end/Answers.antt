@@ -1,6 +1,6 @@
 use Rattle.std.proofs.Common.{◌≡◌, ◌+◌, ◌||◌, ap, sym, ◌∙◌, subst, arith}
-use Rattle.ga_causal.specs.Dependence.{is_marked}
-use Rattle.ga_causal.specs.Equivalence.{observes}
+use Rattle.ga_causal.specs.Dependence.{is_node_flagged}
+use Rattle.ga_causal.specs.Equivalence.{event_observes_node}
 use Rattle.ga_picture.proofs.Running.{AreEnded, ended_none, ended_one, ended_same, ended_within}
 use Rattle.ga_picture.proofs.runs.Runs.end.Goals.{then-has, else-has}
 use Rattle.ga_picture.proofs.runs.Runs.end.Goals as goal
@@ -11,8 +11,8 @@ nodes-init c = ended_none c.args.self.now c.args.item.now.cause c.requires
 pub nodes-preserved : goal.nodes-preserved
 nodes-preserved c =
     let e = c.args.item.now.cause in
-    let seen : observes e c.nodes.number ≡ c.has.result =
-    sym (c.has.ensures ∙ ap (is_marked c.add_observed.new.self) c.new.ensures ∙ c.add_observed.ensures c.nodes.number ∙ ap (λ b. b || observes e c.nodes.number) (c.none-seen.ensures c.nodes.number)) in
+    let seen : event_observes_node e c.nodes.number ≡ c.has.result =
+    sym (c.has.ensures ∙ ap (is_node_flagged c.add_observed_nodes.new.self) c.new.ensures ∙ c.add_observed_nodes.ensures c.nodes.number ∙ ap (λ b. b || event_observes_node e c.nodes.number) (c.none-seen.ensures c.nodes.number)) in
     elim c.if-has.branch [
       | then-has w ↦ ended_one c.args.self.now c.nodes.self c.if-has.self e c.nodes.number (omega arith) c.nodes.invariant (seen ∙ w.if-has.true) (ap (λ z. z.counts) w.self-is)
           (ap (λ z. z.shades) w.self-is)

@@ -1,7 +1,7 @@
 use Rattle.std.proofs.Common.{◌≡◌, [], Some, Ok, true≢false, ap, sym, subst}
 use Rattle.ga_explorer.specs.Opening.{ExplorerState}
-use Rattle.ga_console.specs.Session.{EndsSessionAtNoAnswer}
-use Rattle.ga_console.specs.inner.Run.{AnswersOrEnds}
+use Rattle.ga_console.specs.Session.{NeverAnswersAndEnds}
+use Rattle.ga_console.specs.inner.Run.{AnswersLineOrEnds}
 use Rattle.ga_console.specs.declared.responder.LineAction.TheVariants.{Answered, Refused}
 use Rattle.ga_console.proofs.RunLemmas.{written_fresh}
 use Rattle.ga_console.proofs.Ending.{only_answers}
@@ -16,7 +16,7 @@ returns-in-Ok-Answered-clause-heard c =
     let begun : c.new-said.result.stream.now.items ≡ [] = cc in
     let heard = rw c.in-Ok-Answered.field-0-is at c.in-Ok-Answered.ensures in
     let done = heard.1 [] [] (written_fresh _ [] [] _ (ap Some begun) c.new-said.ensures.nothing) in
-    let P : ExplorerState → Type 0 = λ s. AnswersOrEnds AnswersExplorerLine EndsSessionAtNoAnswer c.args.self.now.explorer c.args.line.now s (Ok Answered) done.0 in
+    let P : ExplorerState → Type 0 = λ s. AnswersLineOrEnds AnswersExplorerLine NeverAnswersAndEnds c.args.self.now.explorer c.args.line.now s (Ok Answered) done.0 in
     (done.0, subst P (sym c.note.ensures.same) done.1, c.note.ensures.noted done.0 done.2)
 
 pub returns-in-Ok-Refused-clause-heard : goal.returns-in-Ok-Refused-clause-heard
@@ -26,7 +26,7 @@ returns-in-Ok-Refused-clause-heard c =
     let begun : c.new-said.result.stream.now.items ≡ [] = cc in
     let heard = rw c.in-Ok-Refused.field-0-is at c.in-Ok-Refused.ensures in
     let done = heard.1 [] [] (written_fresh _ [] [] _ (ap Some begun) c.new-said.ensures.nothing) in
-    let P : ExplorerState → Type 0 = λ s. AnswersOrEnds AnswersExplorerLine EndsSessionAtNoAnswer c.args.self.now.explorer c.args.line.now s (Ok Refused) done.0 in
+    let P : ExplorerState → Type 0 = λ s. AnswersLineOrEnds AnswersExplorerLine NeverAnswersAndEnds c.args.self.now.explorer c.args.line.now s (Ok Refused) done.0 in
     (done.0, subst P (sym c.note-in-Ok-Refused.ensures.same) done.1, c.note-in-Ok-Refused.ensures.noted done.0 done.2)
 
 pub returns-in-Ok-Quit-clause-heard : goal.returns-in-Ok-Quit-clause-heard

@@ -1,6 +1,6 @@
 use Rattle.std.proofs.Common.{◌+◌, ◌∙◌, ◌<◌, ℕ, cond, length, refl, drop, get_or, sym, ap, subst, arith}
-use Rattle.ga_causal.specs.Dependence.{cause_touches}
-use Rattle.ga_race_detector.specs.inner.Glances.{AreTaken}
+use Rattle.ga_causal.specs.Dependence.{event_with_look_touches_node}
+use Rattle.ga_race_detector.specs.inner.Glances.{IsEventAddedToSweep}
 use Rattle.ga_race_detector.proofs.Lefts.{touching_next, behind_here, one_most, AreGoing, are_first, none_most, are_taken, are_most, are_few, are_ended}
 use Rattle.ga_race_detector.proofs.around.StepsLeftNearby.of.Goals as goal
 
@@ -24,15 +24,15 @@ causes-preserved c =
     let within : i < length all = omega arith in
     let known : ℕ → ℕ = λ (n : ℕ). get_or c.causes.depths n 0 in
     let next : ℕ → ℕ = λ (n : ℕ). get_or c.put.new.self n 0 in
-    let taken : AreTaken c.causes.sweep c.take.new.self e c.of-depth.result = c.in_ok-take.ensures.ok in
+    let taken : IsEventAddedToSweep c.causes.sweep c.take.new.self e c.of-depth.result = c.in_ok-take.ensures.ok in
     record {
       going = are_taken all r c.args.node.number known next c.causes.made c.with_step-made.result c.causes.sweep c.take.new.self e (drop (i + 1) all)
           (subst (AreGoing all r c.args.node.number known c.causes.made c.causes.sweep) (behind_here all i e within c.cause-item.is) c.causes.invariant.going)
-          (λ n. c.put.ensures n ∙ ap (λ (z : ℕ). cond {A = ℕ} (cause_touches e n) z (known n)) c.of-depth.ensures)
-          (subst (AreTaken c.causes.sweep c.take.new.self e) c.of-depth.ensures taken)
+          (λ n. c.put.ensures n ∙ ap (λ (z : ℕ). cond {A = ℕ} (event_with_look_touches_node e n) z (known n)) c.of-depth.ensures)
+          (subst (IsEventAddedToSweep c.causes.sweep c.take.new.self e) c.of-depth.ensures taken)
           c.with_step-made.ensures;
-      all = c.with_step-made.ensures ∙ ap (λ (z : ℕ). z + cond {A = ℕ} (cause_touches e r) 1 0) c.causes.invariant.all ∙ sym (touching_next r all i e within c.cause-item.is);
-      made = (let q = c.with_step-made.ensures in let l = c.causes.invariant.made in one_most (cause_touches e r) c.causes.made c.with_step-made.result i q l);
+      all = c.with_step-made.ensures ∙ ap (λ (z : ℕ). z + cond {A = ℕ} (event_with_look_touches_node e r) 1 0) c.causes.invariant.all ∙ sym (touching_next r all i e within c.cause-item.is);
+      made = (let q = c.with_step-made.ensures in let l = c.causes.invariant.made in one_most (event_with_look_touches_node e r) c.causes.made c.with_step-made.result i q l);
       few = are_most c.causes.sweep c.take.new.self e c.of-depth.result i taken c.causes.invariant.few;
     }
 

@@ -1,7 +1,7 @@
 use Rattle.std.proofs.Common.{◌≡◌, [], ◌∷◌, ◌++◌, ap, ◌∙◌, arith, refl, rules, ◌+◌}
-use Rattle.ga_grid.specs.Chip.{records_of}
+use Rattle.ga_grid.specs.Chip.{records_of_chip}
 use Rattle.ga_shared.specs.declared.call.LogEntry.{LogEntry}
-use Rattle.ga_shared.specs.declared.call.Receipt.{Receipt}
+use Rattle.ga_shared.specs.declared.call.CallReceipt.{CallReceipt}
 use Rattle.ga_shared.specs.Log.{LockedState, Worker, IsLoggedCall}
 use Rattle.ga_shared.proofs.Logs.{state_after_call-limit, HasConsistentLog-push}
 use Rattle.ga_shared.proofs.locked.LockedLab.call.Goals as goal
@@ -15,7 +15,7 @@ invariant_of-self-2 g c =
     let was = c.self.inside in
     let answered = c.in_ok-answer.ensures in
     let entry : LogEntry = record { worker = c.seat.inside.number; call = c.args.call; answer = c.in_ok-answer.field-0 } in
-    let desk : LockedState = record { load = records_of was.load; lab = was.lab; log = was.log.items; calls = was.book.total } in
+    let desk : LockedState = record { load = records_of_chip was.load; lab = was.lab; log = was.log.items; calls = was.book.total } in
     HasConsistentLog-push desk c.answer.new.lab c.push_reserved.new.self.items c.add.new.self.total entry c.self.invariant answered.answer answered.given answered.lab (grown g c) (omega (arith, c.add.ensures.total, c.audit.ensures.total))
 
 pub returns-clause-history : goal.returns-clause-history
@@ -26,10 +26,10 @@ returns-clause-makes g c =
     let was = c.self.inside in
     let seat = c.seat.inside in
     let answered = c.in_ok-answer.ensures in
-    let receipt : Receipt = record { place = c.len-place.result; call = c.args.call; answer = c.in_ok-answer.field-0 } in
-    let old : LockedState = record { load = records_of was.load; lab = was.lab; log = was.log.items; calls = was.book.total } in
+    let receipt : CallReceipt = record { place = c.len-place.result; call = c.args.call; answer = c.in_ok-answer.field-0 } in
+    let old : LockedState = record { load = records_of_chip was.load; lab = was.lab; log = was.log.items; calls = was.book.total } in
     let worker : Worker = record { number = seat.number; receipts = seat.receipts.items; calls = seat.share.amount } in
-    let makes : IsLoggedCall old (record { load = records_of was.load; lab = c.answer.new.lab; log = c.push_reserved.new.self.items; calls = c.add.new.self.total }) worker (record { number = seat.number; receipts = c.push_reserved-2.new.self.items; calls = c.add.new.share.amount }) c.args.call receipt =
+    let makes : IsLoggedCall old (record { load = records_of_chip was.load; lab = c.answer.new.lab; log = c.push_reserved.new.self.items; calls = c.add.new.self.total }) worker (record { number = seat.number; receipts = c.push_reserved-2.new.self.items; calls = c.add.new.share.amount }) c.args.call receipt =
     record {
       receipt_is = λ i. record { place = (c.len-place.ensures ∙ c.reserve-2.ensures.len ∙ was.log.ok.0) i; call = c.args.call; answer = answered.answer i };
       lab = answered.lab;

@@ -2,7 +2,7 @@ use Rattle.std.proofs.Common.{◌++◌, ◌∷◌, [], sym, subst, refl}
 use Rattle.ga_parser.specs.declared.item.LocatedRequest.{LocatedRequest}
 use Rattle.ga_parser.specs.declared.item.AssemblyRequest.TheVariants.{Unext}
 use Rattle.ga_source.specs.declared.packing.Packer.{Packer}
-use Rattle.ga_source.specs.inner.{IsWalked, IsGrouped}
+use Rattle.ga_source.specs.inner.{AreRequestsLaidOut, AreItemsGrouped}
 use Rattle.ga_source.proofs.Marking.{of_request, pending_unext}
 use Rattle.ga_source.proofs.Grouped.{putting_unext}
 use Rattle.ga_source.proofs.packing.Packer.unext.Goals as goal
@@ -15,9 +15,9 @@ returns c =
     let same = sym (of_request c.args.asked (Unext c.args.label) c.requires.unext) in
     record {
       cell = c.in_ok-add.ensures.cell;
-      walked = λ before w. subst (λ (asked : LocatedRequest). IsWalked c.add.new.self (before ++ asked ∷ [])) same
+      walked = λ before w. subst (λ (asked : LocatedRequest). AreRequestsLaidOut c.add.new.self (before ++ asked ∷ [])) same
           (c.in_ok-add.ensures.walked (before ++ one ∷ []) (pending_unext self marked before c.args.asked.line c.args.label
           (λ e. let parts = c.broken_by-broken.ensures e in (parts.0, c.is_loop-is_loop.ensures parts.1)) refl refl refl refl w));
-      grouped = λ before w g. subst (λ (asked : LocatedRequest). IsGrouped c.add.new.self (before ++ asked ∷ [])) same
+      grouped = λ before w g. subst (λ (asked : LocatedRequest). AreItemsGrouped c.add.new.self (before ++ asked ∷ [])) same
           (c.in_ok-add.ensures.grouped (before ++ one ∷ []) (putting_unext self marked before c.args.asked.line c.args.label refl refl refl refl refl w g));
     }

@@ -6,8 +6,8 @@ use Rattle.ga_lab.proofs.Replays.{can_peek}
 use Rattle.ga_lab.proofs.Overwritten.{can_between, walked_between}
 use Rattle.ga_lab.proofs.lab.walking.NodeWalk.walk_back_to.Goals as goal
 
-pub walk_back-requires-clause-can : goal.walk_back-requires-clause-can
-walk_back-requires-clause-can c =
+pub walk_node_back-requires-clause-can : goal.walk_node_back-requires-clause-can
+walk_node_back-requires-clause-can c =
     let w = c.self.inside in
     let far = ap (λ (z : NodeAtStep). z.step) c.self.view_is in
     can_between (node_at w.chip.now w.id.number) w.node c.args.step w.step (history w.chronicle.now.journal.histories w.id.number) (omega (arith, far, c.requires))
@@ -19,8 +19,8 @@ invariant_of-self c =
     let far = ap (λ (z : NodeAtStep). z.step) c.self.view_is in record {
       lab = c.self.invariant.lab;
       within = omega (arith, far, c.requires, c.self.invariant.within);
-      walked_to = walked_between (node_at w.chip.now w.id.number) w.node c.walk_back.new.now c.args.step w.step (history w.chronicle.now.journal.histories w.id.number) (omega (arith, far, c.requires))
-          c.self.invariant.walked_to c.walk_back.ensures;
+      walked_to = walked_between (node_at w.chip.now w.id.number) w.node c.walk_node_back.new.now c.args.step w.step (history w.chronicle.now.journal.histories w.id.number) (omega (arith, far, c.requires))
+          c.self.invariant.walked_to c.walk_node_back.ensures;
     }
 
 pub returns : goal.returns

@@ -1,5 +1,0 @@
-use Rattle.ga_check_report.proofs.ExpectationTelling.{session_told}
-use Rattle.ga_check_report.proofs.laws.breach_session_sound.Goals as goal
-
-pub returns : goal.returns
-returns c = session_told

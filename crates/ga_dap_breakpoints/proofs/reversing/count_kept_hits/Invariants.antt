@@ -1,7 +1,0 @@
-use Rattle.std.proofs.Common.{◌≡◌, drop}
-use Rattle.std.specs.Prelude.{replicate}
-use Rattle.ga_dap_breakpoints.specs.Reversing.{hit_counts_from}
-use Rattle.ga_dap_breakpoints.proofs.reversing.count_kept_hits.Given as goal
-
-abbrev pub invariant-breakpoints : goal.invariant-breakpoints
-invariant-breakpoints l = hit_counts_from l.lab l.place (drop l.place l.breakpoints) l.counts ≡ hit_counts_from l.lab 0 l.breakpoints (replicate 64 0)

@@ -1,6 +1,0 @@
-use Rattle.std.proofs.Common.{◌≡◌, drop, None}
-use Rattle.ga_dap_breakpoints.specs.Reversing.{most_steps_left}
-use Rattle.ga_dap_breakpoints.proofs.reversing.most_steps_left.Given as goal
-
-abbrev pub invariant-breakpoints : goal.invariant-breakpoints
-invariant-breakpoints l = most_steps_left l.lab l.node l.latest (drop l.one-index l.breakpoints) ≡ most_steps_left l.lab l.node None l.breakpoints

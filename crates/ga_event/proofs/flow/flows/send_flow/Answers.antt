@@ -1,7 +1,0 @@
-use Rattle.std.proofs.Common.{◌∙◌, ap}
-use Rattle.ga_event.specs.inner.{settled}
-use Rattle.ga_event.proofs.Following.{send_found}
-use Rattle.ga_event.proofs.flow.flows.send_flow.Goals as goal
-
-pub returns-clause-value : goal.returns-clause-value
-returns-clause-value c = c.settle.ensures.value ∙ ap settled c.before_send.ensures.value ∙ send_found c.args.part

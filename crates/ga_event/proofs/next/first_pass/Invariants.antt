@@ -1,8 +1,0 @@
-use Rattle.std.proofs.Common.{◌≡◌, drop}
-use Rattle.ga_grid.specs.Chip.{records_of}
-use Rattle.ga_event.specs.Next.{first_pass_over, first_pass}
-use Rattle.ga_event.proofs.next.first_pass.Given as goal
-
--- no pass is ready over the sides so far
-abbrev pub invariant-loop-side : goal.invariant-loop-side
-invariant-loop-side l = first_pass_over (records_of l.chip) l.reader l.sides (drop l.side-index l.side-items) ≡ first_pass (records_of l.chip) l.reader l.sides

@@ -1,0 +1,10 @@
+use Rattle.std.proofs.Common.{◌≡◌, ◌≤◌}
+use Rattle.ga_causal.specs.Dependence.{is_node_flagged}
+use Rattle.ga_explorer_text.specs.Waiting.{count_passing_nodes}
+use Rattle.ga_explorer_text.proofs.who_text.count_idle_nodes.Given as goal
+
+abbrev pub invariant-nodes : goal.invariant-nodes
+invariant-nodes l = record {
+  few : l.count ≤ l.number;
+  all : l.count ≡ count_passing_nodes (is_node_flagged l.idle) l.number;
+}

@@ -1,8 +1,0 @@
-use Rattle.std.proofs.Common.{arith}
-use Rattle.std.proofs.lemmas.Grind.{common_steps}
-use Rattle.ga_grid.specs.Grid.{number_of_yxx}
-use Rattle.ga_grid.proofs.NodeIds.{from_number_in}
-use Rattle.ga_grid.proofs.node_id.NodeId.from_yxx.Goals as goal
-
-pub returns-then-column-lt18-clause-node : goal.returns-then-column-lt18-clause-node
-returns-then-column-lt18-clause-node c = from_number_in _ (number_of_yxx c.args.yxx) (grind (arith, common_steps))

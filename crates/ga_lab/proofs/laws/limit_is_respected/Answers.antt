@@ -1,5 +1,0 @@
-use Rattle.ga_lab.proofs.Again as Reached
-use Rattle.ga_lab.proofs.laws.limit_is_respected.Goals as goal
-
-pub returns : goal.returns
-returns c = Reached.fits
