@@ -5,7 +5,7 @@ use Rattle.ga_image.proofs.Room.{short_image}
 use Rattle.ga_image.specs.declared.fault.ImageFault.{ImageFault}
 use Rattle.ga_text.specs.Input.{input_limit}
 use Rattle.ga_text.specs.Image.{HasNoEndLine}
-use Rattle.ga_text.specs.Output.{IsTextWrittenOrPending, writer_with_ready_line}
+use Rattle.ga_text.specs.Output.{IsTextWrittenOrPending, ready_line_text}
 use Rattle.ga_lab.specs.Machine.{MachineState}
 use Rattle.ga_console.specs.Session.{AnswerRelation, ServesCommands, IsWholeOrPrefixOnWriteError}
 use Rattle.ga_console.specs.Run.{WritesSessionOfResponder, IsServedSession, Refused, WritesImageRefusal, IsOpenedOnImage, IsFaultOfImage, IsImageBeforeCommands, ReadsOnlyImage, status_of_commands_end}
@@ -61,7 +61,7 @@ refused_in image ahead rest fault part (inl e) = inl e
 refused_in image ahead rest fault part (inr e) = inr (record { image = image; ahead = ahead; splits = refl; part = part; faulty = e })
 
 served_in : {M : Type 0} (A R : AnswerRelation M) (begin : MachineState → M) (limit : ℕ) (image commands rest said text : List ℕ) (machine : MachineState) (last : M) (ending : Result CommandsEnd WriteError) → IsImageBeforeCommands image commands rest
-    → IsOpenedOnImage image limit machine → ServesCommands A R (input_limit - length image) (begin machine) commands rest said last ending → IsWholeOrPrefixOnWriteError ending (writer_with_ready_line ++ said) text
+    → IsOpenedOnImage image limit machine → ServesCommands A R (input_limit - length image) (begin machine) commands rest said last ending → IsWholeOrPrefixOnWriteError ending (ready_line_text ++ said) text
     → IsServedSession A R begin limit (image ++ commands) rest text ending
 served_in A R begin limit image commands rest said text machine last ending part opens serves written =
     let P : MachineState → Type 0 = λ m. ServesCommands A R (input_limit - length image) (begin m) commands rest said last ending in

@@ -8,7 +8,7 @@ use Rattle.ga_image.specs.Grammar.{IsImage}
 use Rattle.ga_image.specs.FirstFault.{out_of_memory_fault, IsFirstImageFault}
 use Rattle.ga_image.specs.declared.fault.ImageFault.{ImageFault}
 use Rattle.ga_text.specs.Input.{input_limit, input_block_size}
-use Rattle.ga_text.specs.Output.{TextHasPrefix, writer_with_ready_line}
+use Rattle.ga_text.specs.Output.{TextHasPrefix, ready_line_text}
 use Rattle.ga_text.specs.Image.{EndsWithEndLine, HasNoEndLine}
 use Rattle.ga_lab.specs.Machine.{MachineState, initial_state}
 use Rattle.ga_display.specs.Texts.{image_fault_text}
@@ -44,7 +44,7 @@ pub record IsServedSession {M : Type 0} (A R : AnswerRelation M) (begin : Machin
   pub accepted : IsImage (lines_of_text image) chip
   pub last : M
   pub serves : ServesCommands A R (input_limit - length image) (begin (initial_state (records_of_chip chip) limit)) commands rest said last ending
-  pub written : IsWholeOrPrefixOnWriteError ending (writer_with_ready_line ++ said) text
+  pub written : IsWholeOrPrefixOnWriteError ending (ready_line_text ++ said) text
 
 -- the image was refused with its first fault, and nothing was read after it
 pub record IsFaultyImageInput (read rest : Bytes) (fault : ImageFault) : Type 0 where

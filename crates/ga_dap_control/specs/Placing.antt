@@ -77,8 +77,8 @@ function_breakpoint names text = breakpoint_after_node_prefix names text (node_o
 abbrev pub instruction_breakpoint_at : ℕ → NodeId × ℕ → Option Breakpoint
 instruction_breakpoint_at on at = let address = (at.1 + on) % 4096 in if nat_lt address 256 then breakpoint_of_address at.0 address else None
 
-abbrev pub data_breakpoint_at : NodeId × ℕ → Option Breakpoint
-data_breakpoint_at at = if nat_lt at.1 128 then Some (record { node = at.0; watched = WritesWatchedCell at.1; condition = None; hits = None }) else None
+abbrev pub ram_write_breakpoint : NodeId × ℕ → Option Breakpoint
+ram_write_breakpoint at = if nat_lt at.1 128 then Some (record { node = at.0; watched = WritesWatchedCell at.1; condition = None; hits = None }) else None
 
 abbrev pub IsBreakpointOfReference : (NodeId × ℕ → Option Breakpoint) → Option Text → Option Breakpoint → Type 0
 IsBreakpointOfReference place None point = point ≡ None
@@ -94,7 +94,7 @@ IsBreakpointLocation p family.Instruction d found =
     (point : Option Breakpoint) × IsBreakpointOfReference (instruction_breakpoint_at (wrapped_address_offset (signed_member_or_zero (codes "offset") d))) (member_as_text (codes "instructionReference") d) point
     × (found ≡ option_map location_without_line point)
 IsBreakpointLocation p family.Data d found =
-    (point : Option Breakpoint) × IsBreakpointOfReference data_breakpoint_at (member_as_text (codes "dataId") d) point × (found ≡ option_map location_without_line point)
+    (point : Option Breakpoint) × IsBreakpointOfReference ram_write_breakpoint (member_as_text (codes "dataId") d) point × (found ≡ option_map location_without_line point)
 
 -- ---- which of its hits end a run: an unreadable condition or hit condition is reported, and nothing is set; null means none
 

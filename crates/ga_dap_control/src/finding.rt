@@ -4,7 +4,7 @@ ghost use Rattle.std.specs.Prelude.{◌≡◌, ◌<◌, length, position, codes,
 ghost use Rattle.serde_json.specs.View.{view};
 ghost use Rattle.ga_dap_protocol.specs.Messages.{member_as_text};
 ghost use Rattle.ga_dap_queries.specs.Disassembling.{signed_member_or_zero, wrapped_address_offset};
-ghost use Rattle.ga_dap_control.specs.Placing.{requested_source_line, source_breakpoint_location, has_label_text, breakpoint_of_any_label, breakpoint_of_node_label, has_node_prefix, node_of_prefix, function_breakpoint, instruction_breakpoint_at, data_breakpoint_at, location_without_line, IsBreakpointOfReference, IsBreakpointLocation};
+ghost use Rattle.ga_dap_control.specs.Placing.{requested_source_line, source_breakpoint_location, has_label_text, breakpoint_of_any_label, breakpoint_of_node_label, has_node_prefix, node_of_prefix, function_breakpoint, instruction_breakpoint_at, ram_write_breakpoint, location_without_line, IsBreakpointOfReference, IsBreakpointLocation};
 
 use crate::configuration::BreakpointKind;
 use ga_dap_breakpoints::{Breakpoint, WatchedAction, breakpoint_of_address, breakpoint_of_line};
@@ -196,8 +196,8 @@ fn found_at_address(program: &Debuggee, asked: &Value) -> Option<BreakpointLocat
 }
 
 /// A breakpoint that is hit where a cell of RAM is written.
-fn data_breakpoint_at(at: (NodeId, u8)) -> Option<Breakpoint>
-    ensures { result ≡ data_breakpoint_at at }
+fn ram_write_breakpoint(at: (NodeId, u8)) -> Option<Breakpoint>
+    ensures { result ≡ ram_write_breakpoint at }
 {
     if at.1 < 128 {
         Some(Breakpoint {
@@ -213,7 +213,7 @@ fn data_breakpoint_at(at: (NodeId, u8)) -> Option<Breakpoint>
 
 /// A breakpoint that is hit where the cell of a reference to memory is written.
 fn writes_referred(reference: Option<&str>) -> Option<Breakpoint>
-    ensures { IsBreakpointOfReference data_breakpoint_at (option_map (λ text. text.now) reference.entry) result }
+    ensures { IsBreakpointOfReference ram_write_breakpoint (option_map (λ text. text.now) reference.entry) result }
 {
     match reference {
         Some(text) => writes_text(text),
@@ -222,10 +222,10 @@ fn writes_referred(reference: Option<&str>) -> Option<Breakpoint>
 }
 
 fn writes_text(text: &str) -> Option<Breakpoint>
-    ensures { IsBreakpointOfReference data_breakpoint_at (Some text.now) result }
+    ensures { IsBreakpointOfReference ram_write_breakpoint (Some text.now) result }
 {
     match resolve_memory_reference(text) {
-        Some(at) => data_breakpoint_at(at),
+        Some(at) => ram_write_breakpoint(at),
         None => None,
     }
 }

@@ -10,7 +10,7 @@ use Rattle.ga_debug_info.specs.declared.notes.CellSource.{CellSource}
 use Rattle.ga_debug_info.specs.declared.notes.DebugInfo.{DebugInfo}
 use Rattle.ga_debug_info.specs.declared.wording.SlotWord.{SlotWord}
 use Rattle.ga_debug_info.specs.declared.wording.DisplayedWord.{DisplayedWord}
-use Rattle.ga_debug_info.specs.Notes.{is_source_of_cell, slot_word_of_cell}
+use Rattle.ga_debug_info.specs.Notes.{is_source_of_cell, source_word_in_slot}
 use Rattle.ga_debug_info.specs.Source.{cell_of_address, result_at_nearest_place}
 use Rattle.ga_dap_views.specs.declared.spots.SlotAddress.{SlotAddress}
 
@@ -49,7 +49,7 @@ debug_info_of_cell notes node cell = option_and_then (slice_get notes.notes.item
 
 -- the word of the source from which a slot comes, and its line
 abbrev pub source_word_of_slot : DebugInfo → NodeId → SlotAddress → Option SlotWord
-source_word_of_slot notes node spot = slot_word_of_cell notes.words.items node spot.cell spot.slot
+source_word_of_slot notes node spot = source_word_in_slot notes.words.items node spot.cell spot.slot
 
 abbrev pub source_line_of_slot : DebugInfo → NodeId → SlotAddress → Option ℕ
 source_line_of_slot notes node spot = option_map (λ (word : SlotWord). word.line) (source_word_of_slot notes node spot)

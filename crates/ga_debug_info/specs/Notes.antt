@@ -174,8 +174,8 @@ is_word_of_slot node cell slot told =
 abbrev pub displayed_word_of_slot : List DisplayedWord → NodeId → ℕ → ℕ → Option DisplayedWord
 displayed_word_of_slot told node cell slot = option_and_then (slice_get told) (position (is_word_of_slot node cell slot) told)
 
-abbrev pub slot_word_of_cell : List DisplayedWord → NodeId → ℕ → ℕ → Option SlotWord
-slot_word_of_cell told node cell slot = option_map (λ (one : DisplayedWord). one.word) (displayed_word_of_slot told node cell slot)
+abbrev pub source_word_in_slot : List DisplayedWord → NodeId → ℕ → ℕ → Option SlotWord
+source_word_in_slot told node cell slot = option_map (λ (one : DisplayedWord). one.word) (displayed_word_of_slot told node cell slot)
 
 abbrev pub displayed_word_text : Option DisplayedWord → List ℕ
 displayed_word_text (Some told) = told.text.items

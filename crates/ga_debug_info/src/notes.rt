@@ -54,7 +54,7 @@ impl DebugInfo {
     ghost use Rattle.std.specs.Prelude.{◌≡◌, ◌==◌, length, [], None, Some, option_map};
     ghost use Rattle.ga_image.specs.Given.{is_word_given};
     ghost use Rattle.ga_image.specs.declared.given.GivenWords.TheVariants.{All};
-    ghost use Rattle.ga_debug_info.specs.Notes.{text_of_first_source_of_cell, is_first_source_of_cell_truncated, slot_text, slot_word_of_cell, first_slot_word_from_line, line_address, label_address_of_node};
+    ghost use Rattle.ga_debug_info.specs.Notes.{text_of_first_source_of_cell, is_first_source_of_cell_truncated, slot_text, source_word_in_slot, first_slot_word_from_line, line_address, label_address_of_node};
 
     /// No debug info, of a chip whose words are all given.
     pub fn no_debug_info(alloc: Global) -> Self
@@ -149,7 +149,7 @@ impl DebugInfo {
 
     /// The word from which a slot of a cell comes; of slot 4, the fetch, the one that begins the cell.
     pub fn slot_word(&self, node: NodeId, cell: u8, slot: usize) -> Option<SlotWord>
-        ensures { result ≡ slot_word_of_cell self.now.words.items node cell slot }
+        ensures { result ≡ source_word_in_slot self.now.words.items node cell slot }
     {
         let place = word_place(self.words.as_slice(), node, cell, slot)?;
         match self.words.get(place) {

@@ -3,7 +3,7 @@ use Rattle.std.specs.Prelude.{◌≡◌, ◌&&◌, ℕ, ◌-◌, ◌++◌, [], l
 use Rattle.std.specs.List.{starts_with}
 use Rattle.ga_text.specs.Lines.{Bytes, Text}
 use Rattle.ga_text.specs.Input.{input_limit}
-use Rattle.ga_text.specs.Output.{writer_with_ready_line}
+use Rattle.ga_text.specs.Output.{ready_line_text}
 use Rattle.ga_console.specs.Run.{status_of_commands_end}
 use Rattle.ga_console.specs.Session.{AnswerRelation, ServesCommands, IsWholeOrPrefixOnWriteError}
 use Rattle.ga_console.specs.declared.commands.CommandsEnd.{CommandsEnd}
@@ -65,7 +65,7 @@ pub record IsServedExplorerSession (prompts strict : Bool) (chip : Option Text) 
   pub opens : OpensTextBeforeCommands chip text limit begun
   pub last : ExplorerState
   pub serves : ServesCommands (AnswersWithPrompt prompts strict) (AnswersAndEndsSession strict) (input_limit - length text) begun commands rest said last ending
-  pub out : IsWholeOrPrefixOnWriteError ending (writer_with_ready_line ++ (prompt_text prompts ++ said)) written
+  pub out : IsWholeOrPrefixOnWriteError ending (ready_line_text ++ (prompt_text prompts ++ said)) written
 
 -- What a session may have written, where read was read of its input and rest is left of it, and its status.
 pub data RunsExplorer (prompts strict : Bool) (chip : Option Text) (limit : ℕ) (read rest : Bytes) (written : Text) (status : Status) : Type 0 where

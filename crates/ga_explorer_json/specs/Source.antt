@@ -4,7 +4,7 @@ use Rattle.ga_text.specs.Lines.{Text}
 use Rattle.ga_grid.specs.declared.node_id.NodeId.{NodeId}
 use Rattle.ga_image.specs.Given.{is_word_given}
 use Rattle.ga_lab.specs.Machine.{MachineState}
-use Rattle.ga_debug_info.specs.Notes.{slot_word_of_cell}
+use Rattle.ga_debug_info.specs.Notes.{source_word_in_slot}
 use Rattle.ga_debug_info.specs.declared.notes.DebugInfo.{DebugInfo}
 use Rattle.ga_debug_info.specs.declared.wording.SlotWord.{SlotWord}
 use Rattle.ga_provenance.specs.declared.value.PartValue.{PartValue}
@@ -18,7 +18,7 @@ use Rattle.ga_json.specs.Fields.{NamedValue}
 abbrev pub source_word : Option DebugInfo → NodeId → Option ℕ → ℕ → Option SlotWord
 source_word None node cell slot = None
 source_word (Some notes) node None slot = None
-source_word (Some notes) node (Some cell) slot = slot_word_of_cell notes.words.items node cell slot
+source_word (Some notes) node (Some cell) slot = source_word_in_slot notes.words.items node cell slot
 
 -- its line and its column
 abbrev pub source_word_line_json : Option SlotWord → JsonValue

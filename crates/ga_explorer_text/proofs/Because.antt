@@ -9,7 +9,7 @@ use Rattle.ga_provenance.specs.declared.deciding.BranchDecision.{BranchDecision}
 use Rattle.ga_provenance.specs.Deciding.{newest_decision}
 use Rattle.ga_display.specs.Texts.{missing_step_text}
 use Rattle.ga_debug_info.specs.declared.notes.DebugInfo.{DebugInfo}
-use Rattle.ga_explorer_text.specs.Because.{decision_text, decisions_text_from_newest, decisions_text, decisions_or_none_text, decisions_before_step_text}
+use Rattle.ga_explorer_text.specs.Because.{branch_decision_text, decisions_text_from_newest, decisions_text, decisions_or_none_text, decisions_before_step_text}
 
 one_more : (notes : Option DebugInfo) (s : MachineState) (node : NodeId) (more k : ℕ)
     → decisions_text notes s node (suc more) k ≡ decisions_text_from_newest notes s node (decisions_text notes s node more) (newest_decision s node k)
@@ -31,12 +31,12 @@ none_left notes s node left k some e =
 -- the newest is written first, and then those before it
 pub next_decision : (notes : Option DebugInfo) (s : MachineState) (node : NodeId) (left less k now : ℕ) (decision : BranchDecision) → 0 < left → less ≡ left - 1
     → Some decision ≡ newest_decision s node k → now + 1 ≡ decision.step
-    → decisions_text notes s node left k ≡ decision_text notes s node decision ++ decisions_text notes s node less now
+    → decisions_text notes s node left k ≡ branch_decision_text notes s node decision ++ decisions_text notes s node less now
 next_decision notes s node left less k now decision some e is step =
     ap (λ (n : ℕ). decisions_text notes s node n k) (let f : left ≡ suc less = omega (arith, some, e) in f)
     ∙ one_more notes s node less k
     ∙ ap (decisions_text_from_newest notes s node (decisions_text notes s node less)) (sym is)
-    ∙ ap (λ (n : ℕ). decision_text notes s node decision ++ decisions_text notes s node less n) (let f : decision.step - 1 ≡ now = omega (arith, step) in f)
+    ∙ ap (λ (n : ℕ). branch_decision_text notes s node decision ++ decisions_text notes s node less n) (let f : decision.step - 1 ≡ now = omega (arith, step) in f)
 
 -- if the step exists, and if it doesn't
 pub because_here : (notes : Option DebugInfo) (s : MachineState) (node : NodeId) (step most : ℕ) → has_step s node.number step ≡ true

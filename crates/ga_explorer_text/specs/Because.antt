@@ -27,14 +27,14 @@ deciding_step_text node decision =
     step_text node decision.step ++ codes " " ++ step_text_for_node decision.made node.number ++ tested_register_text decision.made decision.tested.part decision.word
 
 -- the line of a decision, and below it the line of the value's origin, as `whence` prints it
-abbrev pub decision_text : Option DebugInfo → MachineState → NodeId → BranchDecision → Text
-decision_text notes s node decision =
+abbrev pub branch_decision_text : Option DebugInfo → MachineState → NodeId → BranchDecision → Text
+branch_decision_text notes s node decision =
     deciding_step_text node decision ++ (step_suffix_text notes s node decision.step ++ indented_value_text notes s decision.source)
 
 -- the newest decision, and those before it
 abbrev pub decisions_text_from_newest : Option DebugInfo → MachineState → NodeId → (ℕ → Text) → Option BranchDecision → Text
 decisions_text_from_newest notes s node before None = []
-decisions_text_from_newest notes s node before (Some decision) = decision_text notes s node decision ++ before (decision.step - 1)
+decisions_text_from_newest notes s node before (Some decision) = branch_decision_text notes s node decision ++ before (decision.step - 1)
 
 -- at most `left` decisions among the first `k` steps of a node, the newest first
 unfoldable pub decisions_text : Option DebugInfo → MachineState → NodeId → ℕ → ℕ → Text

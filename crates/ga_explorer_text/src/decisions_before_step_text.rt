@@ -57,7 +57,7 @@ impl<'l> StepContext<'l> {
     ghost use Rattle.ga_text.specs.Output.{WritesSomeText, WritesExactly};
     ghost use Rattle.ga_provenance.specs.Origins.{IsMovedValue};
     ghost use Rattle.ga_provenance.specs.Deciding.{newest_decision};
-    ghost use Rattle.ga_explorer_text.specs.Because.{decision_text, decisions_text, decisions_or_none_text};
+    ghost use Rattle.ga_explorer_text.specs.Because.{branch_decision_text, decisions_text, decisions_or_none_text};
     ghost use Rattle.ga_lab.specs.Machine.{node_at_step};
 
     /// Writes those before the step to which the node is walked back, or `none`.
@@ -105,7 +105,7 @@ impl<'l> StepContext<'l> {
         writer: &mut Writer<'_, W>,
     ) -> WriteResult
         requires { IsMovedValue self.now.lab.now decision.source decision.tested }
-        ensures { WritesExactly result (decision_text self.now.notes.now self.now.lab.now self.now.node decision) W.contents writer.old writer.new }
+        ensures { WritesExactly result (branch_decision_text self.now.notes.now self.now.lab.now self.now.node decision) W.contents writer.old writer.new }
     {
         let step = decision.step;
         let source = decision.source;

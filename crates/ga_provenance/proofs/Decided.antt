@@ -21,7 +21,7 @@ use Rattle.ga_provenance.specs.declared.value.PartValue.{PartValue}
 use Rattle.ga_provenance.specs.declared.deciding.BranchDecision.{BranchDecision}
 use Rattle.ga_provenance.specs.Origins.{value_made_by_step, node_after_steps, value_flow_at_step, origin_of_value, IsMovedValue}
 use Rattle.ga_provenance.specs.Sources.{source_of_sent_word, IsCauseOfValue, IsLoadedOrCauseOfValue}
-use Rattle.ga_provenance.specs.Deciding.{port_code_source, brings_port_code_at, has_port_code, instruction_part_if_port_code, tested_opcode_part, part_tested_by_event, tested_value_deciding_event, decision_of_step, step_decision, branch_decision_at, newer_decision, newest_decision}
+use Rattle.ga_provenance.specs.Deciding.{port_code_source, brings_port_code_at, has_port_code, instruction_part_if_port_code, tested_opcode_part, part_tested_by_event, value_that_decided_event, decision_of_step, step_decision, branch_decision_at, newer_decision, newest_decision}
 use Rattle.ga_provenance.specs.inner.{IsMadeOwnEventOfKind}
 use Rattle.ga_provenance.proofs.Causes.{earlier, earlier_step, named_origin, named_sender}
 
@@ -82,7 +82,7 @@ step_named s node step k place at is less =
 
 -- the value by which it was decided
 tested_named : (s : MachineState) (node : NodeId) (step k place : ℕ) (told : MadeEvent) (value : PartValue) → position_of_step (machine_events_with_looks s) node.number step ≡ Some place → suc k ≤ step
-    → slice_get (history_of_node s node.number) k ≡ Some told → tested_value_deciding_event s node k told ≡ Some value → IsLoadedOrCauseOfValue s (value_made_by_step node step top_data_part) value
+    → slice_get (history_of_node s node.number) k ≡ Some told → value_that_decided_event s node k told ≡ Some value → IsLoadedOrCauseOfValue s (value_made_by_step node step top_data_part) value
 tested_named s node step k place (Own other j kind) value is less at h = go (part_tested_by_event s node k kind) h
   where
     go : (o : Option NodePart) → option_map (value_made_by_step node k) o ≡ Some value → IsLoadedOrCauseOfValue s (value_made_by_step node step top_data_part) value
@@ -100,11 +100,11 @@ record IsToldSo (s : MachineState) (node : NodeId) (k : ℕ) (d : BranchDecision
   made : MadeEvent
   value : PartValue
   there : slice_get (history_of_node s node.number) k ≡ Some made
-  tested : tested_value_deciding_event s node k made ≡ Some value
+  tested : value_that_decided_event s node k made ≡ Some value
   same : decision_of_step s k made value ≡ d
 
 told_so : (s : MachineState) (node : NodeId) (k : ℕ) (d : BranchDecision) (told : MadeEvent) → slice_get (history_of_node s node.number) k ≡ Some told
-    → (o : Option PartValue) → tested_value_deciding_event s node k told ≡ o → option_map (decision_of_step s k told) o ≡ Some d → IsToldSo s node k d
+    → (o : Option PartValue) → value_that_decided_event s node k told ≡ o → option_map (decision_of_step s k told) o ≡ Some d → IsToldSo s node k d
 told_so s node k d told at None tested e = absurd (none-some _ e)
 told_so s node k d told at (Some value) tested e = record { made = told; value = value; there = at; tested = tested; same = same_Some _ _ e }
 
@@ -113,7 +113,7 @@ told_decided s node k d h = go (slice_get (history_of_node s node.number) k) ref
   where
     go : (o : Option MadeEvent) → slice_get (history_of_node s node.number) k ≡ o → option_and_then (step_decision s node k) o ≡ Some d → IsToldSo s node k d
     go None at e = absurd (none-some _ e)
-    go (Some told) at e = told_so s node k d told at (tested_value_deciding_event s node k told) refl e
+    go (Some told) at e = told_so s node k d told at (value_that_decided_event s node k told) refl e
 
 pub step_cause : (s : MachineState) (node : NodeId) (step k place : ℕ) (d : BranchDecision) → position_of_step (machine_events_with_looks s) node.number step ≡ Some place → k < step → branch_decision_at s node k ≡ Some d
     → IsCauseOfValue s (value_made_by_step node d.step top_data_part) (value_made_by_step node step top_data_part)
@@ -154,7 +154,7 @@ kind_part s node k (kind.Run code) at h = opcode_part s node k (opcode_of_code (
 kind_part s node k kind.Wait at h = absurd (none-some _ h)
 kind_part s node k (kind.Stop number) at h = absurd (none-some _ h)
 
-tested_part_of : (s : MachineState) (node : NodeId) (k : ℕ) (told : MadeEvent) (value : PartValue) → tested_value_deciding_event s node k told ≡ Some value → IsNodePartInRange value.part
+tested_part_of : (s : MachineState) (node : NodeId) (k : ℕ) (told : MadeEvent) (value : PartValue) → value_that_decided_event s node k told ≡ Some value → IsNodePartInRange value.part
 tested_part_of s node k (Own other j what) value h = go (part_tested_by_event s node k what) refl h
   where
     go : (o : Option NodePart) → part_tested_by_event s node k what ≡ o → option_map (value_made_by_step node k) o ≡ Some value → IsNodePartInRange value.part

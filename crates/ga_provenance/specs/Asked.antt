@@ -85,16 +85,16 @@ queried_action_part due.Fetch n = queried_read_part part.P part.I (address_targe
 queried_action_part (due.Run op) n = queried_opcode_part op n
 
 -- the selected value of a word that was taken, by what its node waited for
-abbrev pub queried_taken_word_part : Wait → QueriedPart
-queried_taken_word_part (wait.Fetch sides) = PartAfter part.I
-queried_taken_word_part (wait.Read sides) = PartAfter top_data_part
-queried_taken_word_part wait.Nothing = Nothing
-queried_taken_word_part (wait.Write side) = Nothing
+abbrev pub node_part_receiving_word : Wait → QueriedPart
+node_part_receiving_word (wait.Fetch sides) = PartAfter part.I
+node_part_receiving_word (wait.Read sides) = PartAfter top_data_part
+node_part_receiving_word wait.Nothing = Nothing
+node_part_receiving_word (wait.Write side) = Nothing
 
 -- the selected value of an event as made, by its node before; the writer of a pass sends T
 abbrev pub queried_event_part : MadeEvent → NodeRecord → ℕ → QueriedPart
 queried_event_part (made.Own node step kind) before n = queried_action_part (next_action_of_node before) before
-queried_event_part (made.Pass writer i reader j word) before n = if n == reader.number then queried_taken_word_part before.wait else PartBefore top_data_part
+queried_event_part (made.Pass writer i reader j word) before n = if n == reader.number then node_part_receiving_word before.wait else PartBefore top_data_part
 
 -- the selected value of the step after k steps of a node
 abbrev pub queried_part_value : NodeId → ℕ → QueriedPart → Option PartValue

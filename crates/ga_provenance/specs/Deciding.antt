@@ -73,9 +73,9 @@ part_tested_by_event s node k kind.Wait = None
 part_tested_by_event s node k (kind.Stop number) = None
 
 -- the value that decided a step, as made
-abbrev pub tested_value_deciding_event : MachineState → NodeId → ℕ → MadeEvent → Option PartValue
-tested_value_deciding_event s node k (made.Own other step kind) = option_map (value_made_by_step node k) (part_tested_by_event s node k kind)
-tested_value_deciding_event s node k (made.Pass writer i reader j word) = port_code_source_at s node.number k
+abbrev pub value_that_decided_event : MachineState → NodeId → ℕ → MadeEvent → Option PartValue
+value_that_decided_event s node k (made.Own other step kind) = option_map (value_made_by_step node k) (part_tested_by_event s node k kind)
+value_that_decided_event s node k (made.Pass writer i reader j word) = port_code_source_at s node.number k
 
 -- the word of the value that decided a step: the one in its part, or the transferred one
 abbrev pub deciding_word : MachineState → MadeEvent → PartValue → ℕ
@@ -87,7 +87,7 @@ decision_of_step s k told value = record { step = suc k; made = told; tested = v
 
 -- the step after k steps of a node, as made, if a value decided it
 abbrev pub step_decision : MachineState → NodeId → ℕ → MadeEvent → Option BranchDecision
-step_decision s node k told = option_map (decision_of_step s k told) (tested_value_deciding_event s node k told)
+step_decision s node k told = option_map (decision_of_step s k told) (value_that_decided_event s node k told)
 
 abbrev pub branch_decision_at : MachineState → NodeId → ℕ → Option BranchDecision
 branch_decision_at s node k = option_and_then (step_decision s node k) (slice_get (history_of_node s node.number) k)

@@ -6,7 +6,7 @@ ghost use Rattle.ga_node.specs.Record.{record_of_node};
 ghost use Rattle.ga_node.specs.Table.{next_action_of_node};
 ghost use Rattle.ga_lab.specs.Machine.{node_at_step};
 ghost use Rattle.ga_event.specs.Flow.{IsNodePartInRange};
-ghost use Rattle.ga_provenance.specs.Asked.{queried_read_part, queried_write_part, queried_opcode_part, queried_action_part, queried_taken_word_part, queried_event_part, queried_part_value, queried_value};
+ghost use Rattle.ga_provenance.specs.Asked.{queried_read_part, queried_write_part, queried_opcode_part, queried_action_part, node_part_receiving_word, queried_event_part, queried_part_value, queried_value};
 ghost use Rattle.ga_provenance.specs.inner.{IsNodePartIfAnyQueried};
 
 use crate::value::PartValue;
@@ -126,7 +126,7 @@ fn asked_of_own(before: &Node) -> QueriedPart
 
 // The selected value of a step that took a word, by what the node waited for.
 fn asked_of_take(wait: Wait) -> QueriedPart
-    ensures value { result ≡ queried_taken_word_part wait }
+    ensures value { result ≡ node_part_receiving_word wait }
     ensures part { IsNodePartIfAnyQueried result }
 {
     match wait {

@@ -96,7 +96,7 @@ receipt_as_log_entry worker receipt = record { worker = worker.number; call = re
 
 -- One locked call: the answer and the new lab are the machine's, load and limit stay, and log, book, receipts and share grew
 -- by this call
-pub record IsLoggedCall (old new : LockedState) (was now : Worker) (call : Call) (receipt : CallReceipt) : Type 0 where
+pub record MakesLoggedCall (old new : LockedState) (was now : Worker) (call : Call) (receipt : CallReceipt) : Type 0 where
   pub receipt_is : receipt ≡ record { place = length old.log; call = call; answer = call_answer old.lab call }
   pub lab : new.lab ≡ state_after_call old.lab call
   pub limit : new.lab.limit ≡ old.lab.limit

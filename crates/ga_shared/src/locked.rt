@@ -63,7 +63,7 @@ impl<L: Ledger> Model for LockedLab<L> {
 
 impl<L: Ledger> LockedLab<L> {
     ghost use Rattle.std.specs.Prelude.{◌≡◌, ◌≤◌, length, IfOk, OnErr};
-    ghost use Rattle.ga_shared.specs.Log.{IsLoggedCall, HasConsistentLog};
+    ghost use Rattle.ga_shared.specs.Log.{MakesLoggedCall, HasConsistentLog};
 
     /// Makes one call of the lab for a worker, logs it, and puts its receipt at the end of the seat's.
     ///
@@ -75,7 +75,7 @@ impl<L: Ledger> LockedLab<L> {
         seat: &mut WorkerSeat<L>,
         call: Call,
     ) -> Result<CallReceipt, SharedLabFault>
-        ensures makes { IfOk result (λ receipt. IsLoggedCall self.old self.new seat.old seat.new call receipt) }
+        ensures makes { IfOk result (λ receipt. MakesLoggedCall self.old self.new seat.old seat.new call receipt) }
         ensures place { seat.old.calls ≤ length self.old.log }
         ensures memory { OnErr result ((self.new ≡ self.old) × (seat.new ≡ seat.old)) }
         ensures history { HasConsistentLog self.new }

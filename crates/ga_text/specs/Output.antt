@@ -31,8 +31,8 @@ ReadsWholeInput read rest ReadFailed = HasNoEndLine read
 ReadsWholeInput read rest NoMemory = Unit {0}
 
 -- the first output after an accepted image
-abbrev pub writer_with_ready_line : Text
-writer_with_ready_line = codes "ready\n"
+abbrev pub ready_line_text : Text
+ready_line_text = codes "ready\n"
 
 -- front is a front of text
 abbrev pub TextHasPrefix : Text → Text → Type 0

@@ -1,7 +1,7 @@
 //! The output to a stream, buffered before it is written.
 ghost use Rattle.std.specs.Prelude.{◌≡◌, ◌++◌, ◌+◌, ◌≤◌, length, ℕ, List, [], OnOk};
 ghost use Rattle.ga_text.specs.Lines.{Bytes};
-ghost use Rattle.ga_text.specs.Output.{IsTextWrittenOrPending, IsTextWrittenOrTruncated, WritesExactly, WritesNothing, writer_with_ready_line};
+ghost use Rattle.ga_text.specs.Output.{IsTextWrittenOrPending, IsTextWrittenOrTruncated, WritesExactly, WritesNothing, ready_line_text};
 
 use arrayvec::ArrayVec;
 use std::io::Write;
@@ -50,7 +50,7 @@ impl<'w, W: Write> Writer<'w, W> {
     pub fn writer_with_ready_line(stream: &'w mut W) -> Self
         ensures same { result.stream.ghost_name ≡ stream.entry.ghost_name }
         ensures stream { result.stream.now ≡ stream.old }
-        ensures said { result.pending.items ≡ writer_with_ready_line }
+        ensures said { result.pending.items ≡ ready_line_text }
     {
         let mut pending = ArrayVec::new();
         let _fits = pending.try_extend_from_slice(b"ready\n");

@@ -11,7 +11,7 @@ use Rattle.ga_console.specs.declared.command.DebuggerCommand.{DebuggerCommand}
 use Rattle.ga_console.specs.declared.fast_path.CommandAtTextStart.{CommandAtTextStart}
 use Rattle.ga_console.specs.declared.fast_path.CommandAtTextStart.TheVariants.{SpelledCommand, OtherWholeLine, NoWholeLine}
 use Rattle.ga_text.specs.declared.output.WriteError.{WriteError}
-use Rattle.ga_text.specs.Output.{TextHasPrefix, writer_with_ready_line}
+use Rattle.ga_text.specs.Output.{TextHasPrefix, ready_line_text}
 use Rattle.ga_console.specs.declared.run.Status.{Status}
 use Rattle.ga_console.specs.declared.run.Status.TheVariants.{Done, ImageRefused, StreamFault, NotFinished, CommandRefused}
 use Rattle.ga_console.specs.Race.{IsWorkerRaceReport, IsImageRefusal, IsTruncationOfText}
@@ -104,5 +104,5 @@ WritesWorkerRaceAfterImage limit workers calls image text CommandRefused = ⊥
 abbrev pub WritesSessionAfterImage : {M : Type 0} → AnswerRelation M → AnswerRelation M → (MachineState → M) → ℕ → Text → ℕ → Bytes → Bytes → Bytes → Text → Status → Type 0
 WritesSessionAfterImage {M} A R begin limit image taken ahead read rest text status =
     ((machine : MachineState) × IsOpenedOnImage image limit machine × (ending : Result CommandsEnd WriteError) × (status ≡ status_of_commands_end ending)
-    × (said : Text) × (last : M) × ServesCommands A R (input_limit - taken) (begin machine) read rest said last ending × IsWholeOrPrefixOnWriteError ending (writer_with_ready_line ++ said) text)
+    × (said : Text) × (last : M) × ServesCommands A R (input_limit - taken) (begin machine) read rest said last ending × IsWholeOrPrefixOnWriteError ending (ready_line_text ++ said) text)
     ⊎ ((fault : ImageFault) × IsFaultOfImage image fault × WritesImageRefusal fault text status × (read ≡ ahead))

@@ -1,11 +1,11 @@
 use Rattle.std.proofs.Common.{rules, ap, ◌∙◌, inl, inr, refl}
-use Rattle.ga_text.specs.Output.{writer_with_ready_line}
+use Rattle.ga_text.specs.Output.{ready_line_text}
 use Rattle.ga_console.proofs.RunLemmas.{written_fresh, serves_from}
 use Rattle.ga_console.proofs.run.after_image.Goals as goal
 
 pub returns-in-Ok : goal.returns-in-Ok
 returns-in-Ok g c = λ left before known held.
-    let done = c.serve_commands.ensures.serves left before writer_with_ready_line known (written_fresh _ before writer_with_ready_line _ (ap g.W.Write.contents c.writer_with_ready_line-said.ensures.stream ∙ held) c.writer_with_ready_line-said.ensures.said) in
+    let done = c.serve_commands.ensures.serves left before ready_line_text known (written_fresh _ before ready_line_text _ (ap g.W.Write.contents c.writer_with_ready_line-said.ensures.stream ∙ held) c.writer_with_ready_line-said.ensures.said) in
     let there = done.6 in (
       done.0,
       done.1,

@@ -1,6 +1,6 @@
 use Rattle.std.proofs.Common.{rules, Bool, length, ℕ, ◌-◌, List, ◌++◌, refl, Some, sym, ap, subst, ◌∙◌, append_assoc}
 use Rattle.std.proofs.lemmas.List.{append-nil}
-use Rattle.ga_text.specs.Output.{writer_with_ready_line}
+use Rattle.ga_text.specs.Output.{ready_line_text}
 use Rattle.ga_console.specs.Session.{ServesCommands}
 use Rattle.ga_console.proofs.RunLemmas.{written_fresh}
 use Rattle.ga_explorer.specs.Opening.{IsTextBeforeCommands, ExplorerState}
@@ -13,7 +13,7 @@ returns-in-Ok g c = λ left before known held.
     let begun = c.in-Ok.ensures.begun left before known held in
     let text : List ℕ = begun.4.1 in
     let silent = begun.3 ∙ ap Some (ap (λ (t : List ℕ). before ++ t) begun.4.0 ∙ append-nil before) in
-    let done = c.serve_explorer-ending.ensures.serves begun.0 before writer_with_ready_line begun.2 (written_fresh _ before writer_with_ready_line _ (ap g.W.Write.contents c.writer_with_ready_line-said.ensures.stream ∙ silent) c.writer_with_ready_line-said.ensures.said) in
+    let done = c.serve_explorer-ending.ensures.serves begun.0 before ready_line_text begun.2 (written_fresh _ before ready_line_text _ (ap g.W.Write.contents c.writer_with_ready_line-said.ensures.stream ∙ silent) c.writer_with_ready_line-said.ensures.said) in
     let there = done.6 in
     let last = c.serve_explorer-ending.new.session.explorer.explorer in
     let Q : Bool → ExplorerState → ℕ → Type 0 = λ b e n.

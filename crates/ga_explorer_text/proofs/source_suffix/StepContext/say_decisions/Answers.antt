@@ -3,7 +3,7 @@ use Rattle.ga_lab.specs.Machine.{NodeAtStep, node_at_step}
 use Rattle.ga_provenance.specs.Deciding.{newest_decision}
 use Rattle.ga_provenance.proofs.Decided.{decision_moved}
 use Rattle.ga_text.proofs.WriteLemmas.{truncated_here, written_pending}
-use Rattle.ga_explorer_text.specs.Because.{decision_text, decisions_text}
+use Rattle.ga_explorer_text.specs.Because.{branch_decision_text, decisions_text}
 use Rattle.ga_explorer_text.proofs.Saying.{line_written, line_truncated, all_said}
 use Rattle.ga_explorer_text.proofs.Because.{no_more, none_left, next_decision}
 use Rattle.ga_explorer_text.proofs.source_suffix.StepContext.say_decisions.Goals as goal
@@ -58,7 +58,7 @@ returns-in_err-say_decision g c = (
         whole,
         refl,
         truncated_here c.from_residual.result _ before (said ++ whole) _ c.from_residual.ensures.0
-            (line_truncated _ before said whole _ (decision_text notes s node decision) _ done.front more done.splits (c.in_err-say_decision.ensures.1 before (said ++ done.front) done.is_said)),
+            (line_truncated _ before said whole _ (branch_decision_text notes s node decision) _ done.front more done.splits (c.in_err-say_decision.ensures.1 before (said ++ done.front) done.is_said)),
       ),
 )
 
@@ -76,7 +76,7 @@ telling-preserved g c = record {
       let done = c.telling.invariant.said before said h in
       let more = next_decision notes s node c.telling.left (c.telling.left - 1) at c.next.new.self.step decision (omega (arith, c.telling-test.true)) refl
       (c.in-Some.ensures.value ∙ ap (λ (w : NodeAtStep). newest_decision w.machine w.node at) c.telling.invariant.decisions) c.in-Some.ensures.step in
-      line_written _ before said whole _ (decision_text notes s node decision) _ done.front _ more done.splits (c.in_ok-say_decision.ensures.1 before (said ++ done.front) done.is_said);
+      line_written _ before said whole _ (branch_decision_text notes s node decision) _ done.front _ more done.splits (c.in_ok-say_decision.ensures.1 before (said ++ done.front) done.is_said);
 }
 
 pub returns : goal.returns

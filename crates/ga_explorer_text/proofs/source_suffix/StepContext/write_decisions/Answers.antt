@@ -3,7 +3,7 @@ use Rattle.ga_lab.specs.Machine.{NodeAtStep}
 use Rattle.ga_provenance.specs.Deciding.{newest_decision}
 use Rattle.ga_provenance.proofs.Decided.{decision_moved}
 use Rattle.ga_text.proofs.WriteLemmas.{truncated_here, truncated_within, written_pending}
-use Rattle.ga_explorer_text.specs.Because.{decision_text, decisions_text, decisions_or_none_text}
+use Rattle.ga_explorer_text.specs.Because.{branch_decision_text, decisions_text, decisions_or_none_text}
 use Rattle.ga_explorer_text.proofs.Saying.{joined_written}
 use Rattle.ga_explorer_text.proofs.Because.{no_more, next_decision}
 use Rattle.ga_explorer_text.proofs.source_suffix.StepContext.write_decisions.Goals as goal
@@ -56,7 +56,7 @@ returns-in_err-say_decision g c = (
         whole,
         ap (decisions_or_none_text notes s node c.args.most k) some,
         truncated_here c.from_residual.result _ before (said ++ whole) _ c.from_residual.ensures.0
-            (truncated_within _ before said (decision_text notes s node newest) rest whole (sym more) (c.in_err-say_decision.ensures.1 before said h)),
+            (truncated_within _ before said (branch_decision_text notes s node newest) rest whole (sym more) (c.in_err-say_decision.ensures.1 before said h)),
       ),
 )
 
@@ -71,7 +71,7 @@ returns g c = (
       let some : Some c.in-Some.newest ≡ newest_decision s node k = c.in-Some.ensures.value ∙ ap (λ (w : NodeAtStep). newest_decision w.machine w.node w.step) c.before-decisions.ensures in
       let newest = c.in-Some.newest in
       let now = c.next.new.self.step in
-      let first : List ℕ = decision_text notes s node newest in
+      let first : List ℕ = branch_decision_text notes s node newest in
       let done = c.say_decisions.ensures.1 before (said ++ first) (c.in_ok-say_decision.ensures.1 before said h) in
       let more = next_decision notes s node c.args.most (c.args.most - 1) k now newest (omega (arith, c.if-most-eq0.false)) refl some c.in-Some.ensures.step in (
         first ++ done.0,

@@ -2,7 +2,7 @@ use Rattle.std.proofs.Common.{◌≡◌, [], ◌∷◌, ◌++◌, ap, ◌∙◌,
 use Rattle.ga_grid.specs.Chip.{records_of_chip}
 use Rattle.ga_shared.specs.declared.call.LogEntry.{LogEntry}
 use Rattle.ga_shared.specs.declared.call.CallReceipt.{CallReceipt}
-use Rattle.ga_shared.specs.Log.{LockedState, Worker, IsLoggedCall}
+use Rattle.ga_shared.specs.Log.{LockedState, Worker, MakesLoggedCall}
 use Rattle.ga_shared.proofs.Logs.{state_after_call-limit, HasConsistentLog-push}
 use Rattle.ga_shared.proofs.locked.LockedLab.call.Goals as goal
 
@@ -29,7 +29,7 @@ returns-clause-makes g c =
     let receipt : CallReceipt = record { place = c.len-place.result; call = c.args.call; answer = c.in_ok-answer.field-0 } in
     let old : LockedState = record { load = records_of_chip was.load; lab = was.lab; log = was.log.items; calls = was.book.total } in
     let worker : Worker = record { number = seat.number; receipts = seat.receipts.items; calls = seat.share.amount } in
-    let makes : IsLoggedCall old (record { load = records_of_chip was.load; lab = c.answer.new.lab; log = c.push_reserved.new.self.items; calls = c.add.new.self.total }) worker (record { number = seat.number; receipts = c.push_reserved-2.new.self.items; calls = c.add.new.share.amount }) c.args.call receipt =
+    let makes : MakesLoggedCall old (record { load = records_of_chip was.load; lab = c.answer.new.lab; log = c.push_reserved.new.self.items; calls = c.add.new.self.total }) worker (record { number = seat.number; receipts = c.push_reserved-2.new.self.items; calls = c.add.new.share.amount }) c.args.call receipt =
     record {
       receipt_is = λ i. record { place = (c.len-place.ensures ∙ c.reserve-2.ensures.len ∙ was.log.ok.0) i; call = c.args.call; answer = answered.answer i };
       lab = answered.lab;
