@@ -45,6 +45,3 @@ pub use whence_json::write_provenance_json;
 pub use who_json::write_waiting_nodes_json;
 pub use words_json::write_link_words_json;
 pub use writes_json::write_cell_writes_json;
-
-#[cfg(test)]
-mod tests;

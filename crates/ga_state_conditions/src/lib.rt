@@ -13,6 +13,3 @@ pub use asked::{ConditionFault, StateConditions, parse_state_conditions};
 pub use condition::StateCondition;
 pub use finding::{ReachedEvent, find_reached_event};
 pub use session::find_session_reaching_event;
-
-#[cfg(test)]
-mod tests;

@@ -23,8 +23,3 @@ pub use finding::find_unmet_expectation_state;
 pub use lines::parse_expectations;
 pub use parsing::parse_expectation;
 pub use source::{Expectation, LineExpectation};
-
-#[cfg(test)]
-mod tests;
-#[cfg(test)]
-mod tests_of_text;

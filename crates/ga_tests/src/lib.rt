@@ -5,6 +5,8 @@
 #[cfg(test)]
 mod adapter;
 #[cfg(test)]
+mod closed_sets;
+#[cfg(test)]
 mod common;
 #[cfg(test)]
 mod events;
@@ -20,5 +22,13 @@ mod moves;
 mod schedules;
 #[cfg(test)]
 mod shared;
+#[cfg(test)]
+mod small_programs;
+#[cfg(test)]
+mod state_graph;
+#[cfg(test)]
+mod state_search;
+#[cfg(test)]
+mod state_store;
 #[cfg(test)]
 mod streams;
