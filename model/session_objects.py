@@ -7,6 +7,8 @@ How many conditions a run has is in the line that asks, and whether it names the
 SIDES = ("right", "down", "left", "up")
 LETTERS = {"right": "r", "down": "d", "left": "l", "up": "u"}
 OPCODES = "; ex jump call unext next if -if @p @+ @b @ !p !+ !b ! +* 2* 2/ ~ + and or drop dup pop over a . push b! a!".split(" ")
+# The digits of numbers that are hexadecimal.
+DIGITS = {"address": 2, "word": 6, "value": 6}
 # The parts that `whence` names after a step.
 NAMED = ("a", "b", "p", "io", "carry", "slot", "r", "wait", "stop", "d", "s")
 
@@ -46,6 +48,21 @@ def source_text(it):
     return f" \\ {it['source']}"
 
 
+def values_text(it):
+    """The values of an object or a row in their order, and what the source has for it, as a line."""
+    named = {name: value for name, value in it.items() if name not in ("rows", "line", "column", "source")}
+    values = " ".join(f"{value:0{DIGITS[name]}x}" if name in DIGITS else str(value) for name, value in named.items())
+    return f"{values}{source_text(it) if 'source' in it else ''}\n"
+
+
+def regular_text(it):
+    """The text of an object without a function of its own: counts, each after its name, or `none`; else its values, and those of each row."""
+    counts = {name: value for name, value in it.items() if name != "command"}
+    if all(value is None or type(value) is int for value in counts.values()):
+        return "none\n" if None in counts.values() else " ".join(f"{name} {value}" for name, value in counts.items()) + "\n"
+    return values_text(it) + "".join(map(values_text, it.get("rows", [])))
+
+
 class SessionText:
     """The text of an answer, from its object and the line that asked for it."""
 
@@ -59,7 +76,7 @@ class SessionText:
             return (f"ga144: line {it['line']}: " if it["line"] is not None else "") + f"{it['text']}\n"
         if "refused" in it:
             return f"no {it['refused']} {it['why']}{self.hint_text(it)}\n"
-        return it["text"] if "text" in it else getattr(self, f"{it['command']}_text")(it)
+        return it["text"] if "text" in it else getattr(self, f"{it['command']}_text", regular_text)(it)
 
     @staticmethod
     def hint_text(it):
@@ -68,11 +85,6 @@ class SessionText:
 
     def step_text(self, it):
         return f"{event_text(it)}\n"
-
-    def back_text(self, it):
-        return "none\n" if it["removed"] is None else f"removed {it['removed']} kept {it['kept']}\n"
-
-    rewind_text = back_text
 
     def run_text(self, it):
         if it["end"] == "reached":
@@ -89,12 +101,6 @@ class SessionText:
         stack, returns = ([hex6(row["value"]) for row in rows] for rows in (it["rows"][:10], it["rows"][10:]))
         return f"node {it['node']} {state} {words} slot {it['slot']} carry {it['carry']} io {hex6(it['io'])} d {' '.join(stack)} r {' '.join(returns)}\n"
 
-    def mem_text(self, it):
-        return f"mem {it['node']} {it['address']:02x} {hex6(it['word'])}\n"
-
-    def count_text(self, it):
-        return f"kept {it['kept']} made {it['made']} limit {it['limit']}\n"
-
     def trace_text(self, it):
         return f"trace {it['node']} {len(it['rows'])}\n" + "".join(f"{event_text(row)}\n" for row in it["rows"])
 
@@ -104,15 +110,14 @@ class SessionText:
     def words_text(self, it):
         rows = (f"{row['number']} {it['from']} {row['from_step']} {it['to']} {row['to_step']} {hex6(row['word'])}\n" for row in it["rows"])
         assert it["count"] == len(it["rows"])
-        return f"words {it['from']} {it['to']} {it['count']}\n" + "".join(rows)
+        return values_text(it) + "".join(rows)
 
     def writes_text(self, it):
         return "".join(f"{it['node']} {row['step']} {row['opcode']} {hex6(row['value'])}\n" for row in it["rows"])
 
     def effects_text(self, it):
         assert it["nodes"] == len(it["rows"])
-        rows = (f"{row['node']} {row['first_step']} {row['steps']}{source_text(row)}\n" for row in it["rows"])
-        return f"effects {it['events']} {it['nodes']}\n" + "".join(rows)
+        return f"effects {it['events']} {it['nodes']}\n" + "".join(map(values_text, it["rows"]))
 
     def at_text(self, it):
         rows = ((row, "".join(f" {name} {hex6(row[name])}" for name in "tsrabp")) for row in it["rows"])
