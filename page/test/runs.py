@@ -77,6 +77,19 @@ return { reached, answer, before, now: logged(), hidden: find("whence").hidden }
     check(result["hidden"] == unknown and result["now"] == (result["before"] if unknown else result["answer"]), f"whence: {result}")
 
 
+def rebuilt(browser, check):
+    """A change that the page knows leaves the same history as the way for any other: the events of `save` after it."""
+    for line in ("rewind 000 7", "rewind 000 99", "back until wait 000", "back 001 until wait 001", "run greedy 9", "rewind 000 1"):
+        both = browser.run("""
+page.open(%s); page.command("run until stop");
+const { session } = page, before = session.now();
+const now = ({ answer }) => JSON.stringify([answer, session.commands, session.events.map(it => [it.text, it.place, it.one, it.other]), session.answer_text("dump")]);
+const known = now(session.change(%s)); session.restore(before);
+return [known, now(session.rebuild(%s))];
+""" % (FAULT, json.dumps(line), json.dumps(line)))
+        check(both[0] == both[1], f"{line}, known and rebuilt: {both}")
+
+
 def ends(browser, check):
     """The ends of a program; the session of a kind by a click, and back by `redo`."""
     path = f"{TOP}/examples/check/status-5/a_key_for_who_asked_second"

@@ -46,11 +46,13 @@ function event_told(line) {
   return ["fetch", "run", "wait", "stop"].includes(what) ? new ChipEvent({ node, step: +step, what, opcode: OPCODES[parseInt(more, 16)], stop: more }) : null;
 }
 
-// The text of an answer that changed the chip or was refused; null of a run that reached a condition, which the core has to name.
+// The text of an answer that changed the chip or was refused; null of a run that reached a condition, and of any other, which the core has to
+// name.
 function text_of_change(it) {
   if (it.refused) return `no ${it.refused} ${it.why}${it.hint ? `: ${it.hint}` : ""}`;
   if (it.end) return it.end === "reached" ? null : `${it.end} ${it.events}${it.hint ? `: ${it.hint}` : ""}`;
-  return it.what ? event_of(it).text : it.removed ? `removed ${it.removed} kept ${it.kept}` : "none";
+  if (it.what) return event_of(it).text;
+  return it.removed ? `removed ${it.removed} kept ${it.kept}` : it.removed === null ? "none" : null;
 }
 const text_of_count = it => `kept ${it.kept} made ${it.made} limit ${it.limit}`;
 
@@ -116,18 +118,22 @@ function names_in(row, it = row) {
 // The value of a row of `because`, whose fields have a name of their own there.
 const value_tested = row => Object.fromEntries(Object.entries(row).filter(([name]) => name.startsWith("source_")).map(([name, value]) => [name.slice(7), value]));
 
-// Commands of which the first line is of the object itself, and names nodes or steps.
-const OWN_LINE = ["step", "run", "node", "mem", "trace", "words", "whence"];
+// Commands with rows whose first line, of the object itself, names nodes or steps. That of the others has only counts.
+const HEADED = ["node", "trace", "words", "whence"];
+// What a line may name of the answers that aren't a line for each row, after one of the object itself. A line of `who` names nodes of any
+// row; its last number counts nodes.
+const NAMED = {
+  save: (it, at, lines) => node_named(lines[at].slice(5)),
+  who: it => [{ text: `idle ${it.idle}` }, { text: `and ${it.deadlocked_idle} idle` }, ...Array.from(new Set(it.rows.flatMap(row => [row.node, row.right, row.down, row.left, row.up]))).flatMap(node_named)],
+  because: (it, at) => { const row = it.rows[at >> 1]; return !row ? [] : at % 2 ? names_in(value_tested(row)) : names_in(row, it); },
+};
 
 // What a line of an answer may name.
 function names_of(it, at, lines) {
   if (!it || it.refused) return [];
-  if (it.command === "save") return node_named(lines[at].slice(5));
-  // Each of these lines names nodes of any row; its last number counts nodes.
-  if (it.command === "who") return [{ text: `idle ${it.idle}` }, { text: `and ${it.deadlocked_idle} idle` }, ...Array.from(new Set(it.rows.flatMap(row => [row.node, row.right, row.down, row.left, row.up]))).flatMap(node_named)];
-  if (it.command === "because") { const row = it.rows[at >> 1]; return !row ? [] : at % 2 ? names_in(value_tested(row)) : names_in(row, it); }
-  const { rows = [] } = it, is_rows = ["at", "writes"].includes(it.command), before = it.command === "whence" ? lines.length - rows.length - (it.more_from ? 1 : 0) : is_rows ? 0 : 1, row = rows[at - before];
-  return row ? names_in(row, it) : at < before && OWN_LINE.includes(it.command) ? names_in(it) : [];
+  if (NAMED[it.command]) return NAMED[it.command](it, at, lines);
+  const { rows = [] } = it, heads = rows.length > lines.length ? lines.length : Math.min(1, lines.length - rows.length - (it.more_from ? 1 : 0)), row = rows[at - heads];
+  return row ? names_in(row, it) : at < heads && (!it.rows || HEADED.includes(it.command)) ? names_in(it) : [];
 }
 
 // The text of the source at the end of a line: its place is a link, the rest is dim.

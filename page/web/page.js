@@ -63,13 +63,13 @@ class Page {
       if (line === "help") show_help(answer, "commands"); else this.say(line, answer, told ? told[0] : null);
       return answer;
     }
-    const before = /^(back|rewind)\b/.test(line) ? this.session.now() : null, { chosen } = this, { commands } = this.session;
+    const before = /^(step|run)\b/.test(line) ? null : this.session.now(), { chosen } = this, { commands } = this.session;
     const going = chosen && line === `rewind ${chosen.join(" ")}` ? this.touched[GOES] : NAMES, questions = [`at ${this.selected} last 40`, ...this.session.questions_after(line, this.selected, going)];
     const { answer, line: given, is_cut, more = null } = this.session.change(line, questions);
     const told = text_of_change(answer), answers = [...(told ? [told] : this.session.answer_text(given, commands)), ...(is_cut ? [NO_MEMORY] : [])];
     this.say(line, answers, answer);
     if (answer.removed) this.undone = [...this.undone.slice(1 - MOST_UNDONE), { before, chosen, selected: this.selected, count: answer.removed }];
-    else if (answer.events || answer.what) this.undone = [];
+    else if (this.session.commands !== commands) this.undone = [];
     if (answer.end === "reached") [[this.selected]] = event_of(answer).ends;
     if (more) this.session.learn(more);
     this.after();

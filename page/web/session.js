@@ -67,9 +67,9 @@ class Session {
   // Gives one of them. Returns its answer, the line that was given at last, with fewer events where memory ended, whether it did, and the
   // answers to the queries after a step or a rollback.
   change(line, questions = []) {
-    if (line.startsWith("run")) return this.run(line);
-    if (line.startsWith("back ")) return { answer: this.back_until(line), line };
-    const { answers: [answer], more } = STEPS_ALONE.test(line) ? this.step([line], questions) : this.rewind(line, questions);
+    const ways = { run: () => this.run(line), back: () => ({ answer: this.back_until(line), line }), rewind: () => this.rewind(line, questions) };
+    if (!STEPS_ALONE.test(line)) return (ways[line.split(" ")[0]] || (() => this.rebuild(line)))();
+    const { answers: [answer], more } = this.step([line], questions);
     return { answer, line, more };
   }
 
@@ -108,7 +108,7 @@ class Session {
     if (!all && questions.length) return this.rewind(line);
     const [effects, told] = all || [{}, OUT_OF_MEMORY], firsts = firsts_of(effects), first = NAMES.map(n => firsts[n]);
     const answer = this.leave(line, told, ({ one, ends }) => !(ends[0][1] >= first[one]));
-    return { answers: [answer], more: questions.length && answer.removed ? all.slice(2) : null };
+    return { answer, line, more: questions.length && answer.removed ? all.slice(2) : null };
   }
 
   // `back until`, of all nodes or of one. `save` names what is left: of each node the first of the events that it makes.
@@ -117,6 +117,19 @@ class Session {
     const answer = this.leave(line, told, ({ ends: [[name]] }) => counts[name]-- > 0);
     if (answer.removed) this.is_plain = false;
     return answer;
+  }
+
+  // Any other change: the history is what `save` names after it, each event anew.
+  rebuild(line) {
+    const [answer, { text }] = this.ask([line, "save"]) || [OUT_OF_MEMORY, {}];
+    if (answer.refused) return { answer, line };
+    const steps = text.split("\n").slice(0, -1), events = steps.length ? this.answer_text(steps.join("\n"), "").map(event_told) : [];
+    if (events.length !== steps.length || events.includes(null)) return { answer: OUT_OF_MEMORY, line };
+    this.keep_all([]);
+    for (const it of events) this.keep(it);
+    this.record([line], [answer]);
+    this.is_plain = false;
+    return { answer, line };
   }
 
   // Keeps these events alone, where as many go as the answer says.
