@@ -1,6 +1,7 @@
 """Sessions of programs in examples/. What is wanted is what docs/TUTORIAL.md and docs/FINDING.md have of the same commands."""
 
 import os
+import re
 
 import pytest
 
@@ -100,6 +101,11 @@ def test_a_value_that_nobody_set(session, tmp_path):
 def test_options(session):
     limited = session("first.f18", "--limit", "2")
     assert limited.run()["end"] == "full"
+
+
+def test_each_command_has_a_method(session):
+    names = re.findall("^[a-z]+", session("first.f18").command("help")["text"], re.MULTILINE)
+    assert [it for it in names if not hasattr(Session, it)] == ["help", "quit"]
 
 
 def test_a_word_that_is_no_command(session):
