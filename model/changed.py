@@ -9,7 +9,7 @@ import subprocess
 import sys
 from itertools import zip_longest
 
-from explore import FORMS, LONGEST, VALUE, Explorer, parts_of
+from explore import FORMS, KINDS, LONGEST, Explorer, parts_of
 from files import answer, is_command, load_of
 from machine import Machine
 from sessions import DEFAULT_LIMIT, SECONDS
@@ -26,7 +26,7 @@ COMMANDS = {
     ],
 }  # fmt: skip
 # an example of each word of a form
-WORDS = {"NNN": "000", "MMM": "001", "K": "1", "HH": "00", "N": "2", "COMMAND": "why", VALUE: "[00]", "L": "1"}
+WORDS = {kind: example for kind, (_, example) in KINDS.items()}
 OWN = [form for name, form in FORMS.items() if hasattr(Explorer, f"answer_{name}")]
 COMMANDS["explore"] += [" ".join(WORDS.get(word, word) for word in parts_of(form) if not word.startswith("[")) for form in OWN]
 COMMANDS["explore"] += [" ".join(WORDS.get(word, word) for part in parts_of(form) for word in part.strip("[]").split(" ")) for form in OWN if "[" in form]

@@ -35,9 +35,12 @@ def command(*row):
     return lambda method: method
 
 
-# what the words of a form stand for; one in brackets may be missing
+# what the words of a form stand for, with an example; one in brackets may be missing
 VALUE = "VALUE"
-KINDS = {"NNN": NODE, "MMM": NODE, "K": STEP, "HH": HH, "N": "[1-9]?[0-9]", "L": "[1-9][0-9]{0,9}", "COMMAND": ".+", VALUE: rf"[tsrpabi]|d[2-9]|r[1-8]|io|carry|slot|\[{HH}\]"}
+KINDS = {
+    "NNN": (NODE, "000"), "MMM": (NODE, "001"), "K": (STEP, "1"), "HH": (HH, "00"), "N": ("[1-9]?[0-9]", "2"), "L": ("[1-9][0-9]{0,9}", "1"),
+    "COMMAND": (".+", "why"), VALUE: (rf"[tsrpabi]|d[2-9]|r[1-8]|io|carry|slot|\[{HH}\]", "[00]"),
+}  # fmt: skip
 FEW = 3
 
 
@@ -50,7 +53,7 @@ def spelled(form):
     """The lines of a form, and the kinds of its arguments."""
     command, *parts = parts_of(form)
     words = [part.strip("[]").split(" ") for part in parts]
-    patterns = ("".join(f" {word}" for word in before) + f" ({KINDS[kind]})" for *before, kind in words)
+    patterns = ("".join(f" {word}" for word in before) + f" ({KINDS[kind][0]})" for *before, kind in words)
     return re.compile(command + "".join(f"(?:{pattern})" + "?" * part.startswith("[") for pattern, part in zip(patterns, parts))), [it[-1] for it in words]
 
 
