@@ -79,7 +79,7 @@ return { reached, answer, before, now: logged(), hidden: find("whence").hidden }
 
 def rebuilt(browser, check):
     """A change that the page knows leaves the same history as the way for any other: the events of `save` after it."""
-    for line in ("rewind 000 7", "rewind 000 99", "back until wait 000", "back 001 until wait 001", "run greedy 9", "rewind 000 1"):
+    for line in ("rewind 000 7", "rewind 000 99", "back until wait 000", "back until p 000 0003ff", "back 001 until wait 001", "run greedy 9", "run 0", "rewind 000 1"):
         both = browser.run("""
 page.open(%s); page.command("run until stop");
 const { session } = page, before = session.now();

@@ -122,7 +122,7 @@ class Session {
   // Any other change: the history is what `save` names after it, each event anew.
   rebuild(line) {
     const [answer, { text }] = this.ask([line, "save"]) || [OUT_OF_MEMORY, {}];
-    if (answer.refused) return { answer, line };
+    if (answer.refused || text === lines_of(saved(this.events))) return { answer, line };
     const steps = text.split("\n").slice(0, -1), events = steps.length ? this.answer_text(steps.join("\n"), "").map(event_told) : [];
     if (events.length !== steps.length || events.includes(null)) return { answer: OUT_OF_MEMORY, line };
     this.keep_all([]);
