@@ -29,11 +29,13 @@ class Session:
     """A program of a file, an image or source, whose nodes make steps by commands.
 
     The program is `ga144`, or the environment's GA144; the options are those of `ga144 explore`. Ends with a `with` statement, or by `close`.
-    Each method raises Refused if the command is refused.
+    Each method raises Refused if the command is refused. Commands that the file has after its line `end`, as a saved session has, are carried out first.
     """
 
     def __init__(self, path: str | os.PathLike[str], *options: str, program: str | None = None):
         self.path = os.fspath(path)
+        if self.path == "-":
+            raise ValueError("a session reads commands from its standard input: give the program in a file")
         words = [program or os.environ.get("GA144", "ga144"), "explore", "--json", *options, "--", self.path]
         self._errors = tempfile.TemporaryFile()
         self._process = subprocess.Popen(words, stdin=subprocess.PIPE, stdout=subprocess.PIPE, stderr=self._errors)
@@ -67,9 +69,22 @@ class Session:
             answer = self._read()
             if answer["answer"] != "ready":
                 raise SessionError("\n".join(_reason(it) for it in (answer, *map(json.loads, self._output))))
+            self._answer_file()
         except BaseException:
             self.close()
             raise
+
+    def _answer_file(self) -> None:
+        """Reads the answers to the lines that the file has after its line `end`, up to `quit`."""
+        with open(self.path, "rb") as file:
+            lines = file.read().split(b"\n")
+        commands = lines[lines.index(b"end") + 1 :] if b"end" in lines else []
+        if commands and not commands[-1]:
+            commands.pop()
+        elif commands:
+            self._send(b"")
+        for line in commands[: commands.index(b"quit")] if b"quit" in commands else commands:
+            self._answer(line.decode(errors="replace"))
 
     def _read(self) -> Answer:
         line = self._output.readline()
@@ -85,11 +100,17 @@ class Session:
             raise ValueError("a command is one line")
         if self._input.closed:
             raise SessionError("the session is closed")
+        self._send(line.encode())
+        return self._answer(line)
+
+    def _send(self, line: bytes) -> None:
         try:
-            self._input.write(line.encode() + b"\n")
+            self._input.write(line + b"\n")
             self._input.flush()
         except BrokenPipeError:
             pass
+
+    def _answer(self, line: str) -> Answer:
         answer = self._read()
         if "refused" in answer:
             raise Refused(line, answer["refused"], answer["why"], answer.get("hint"))

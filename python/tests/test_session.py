@@ -108,6 +108,29 @@ def test_each_command_has_a_method(session):
     assert [it for it in names if not hasattr(Session, it)] == ["help", "quit"]
 
 
+def test_commands_in_the_file(session, tmp_path):
+    with open(os.path.join(ROOT, "examples", "fault.f18"), encoding="utf-8") as file:
+        program = file.read()
+    for ending in ("", "\n", "\nquit\nback\n"):
+        saved = tmp_path / "saved"
+        saved.write_text(f"{program}end\nrun until stop\nrewind 000 7{ending}")
+        begun = session(saved)
+        if "quit" in ending:
+            with pytest.raises(SessionError):
+                begun.count()
+        else:
+            assert begun.count()["kept"] == 163 and begun.mem("000", 2) == 0xA8
+    saved.write_text(f"{program}end\nrun\nrewind 000 1000\ncount\n")
+    with pytest.raises(Refused) as refusal:
+        session(saved)
+    assert (refusal.value.line, refusal.value.word) == ("rewind 000 1000", "nostep")
+
+
+def test_a_program_on_standard_input():
+    with pytest.raises(ValueError):
+        Session("-")
+
+
 def test_a_word_that_is_no_command(session):
     with pytest.raises(Refused) as refusal:
         session("first.f18").command("foo")
