@@ -1,15 +1,11 @@
 -- The row of a command has the class of the command, and what is no change leaves the machine as it is.
 use Rattle.std.specs.Prelude.{nat_eq, codes, option_map, if◌then◌else◌}
 use Rattle.std.specs.Cmp.Lexicographic.{pointwise}
-use Rattle.std.specs.Option.{option_and_then}
 use Rattle.std.proofs.Common.{◌≡◌, ◌≢◌, ℕ, Bool, true, false, List, Option, Some, None, refl, sym, ◌∙◌, ap, subst, inl, inr, rules}
 use Rattle.std.proofs.lemmas.Slice.Eq.{bytes_eq-Decides}
 use Rattle.ga_lab.specs.Machine.{MachineState}
-use Rattle.ga_text.specs.Parsing.{split_at_space, parse_node, parse_number}
+use Rattle.ga_text.specs.Parsing.{split_at_space}
 use Rattle.ga_debug_info.specs.declared.notes.DebugInfo.{DebugInfo}
-use Rattle.ga_scheduler.specs.declared.schedule.Schedule.{Schedule}
-use Rattle.ga_scheduler.specs.Schedules.{round_robin_schedule, greedy_schedule, random_schedule}
-use Rattle.ga_conditions.specs.Conditions.{never_holding_conditions, parsed_run_conditions, parsed_until_conditions}
 use Rattle.ga_display.specs.declared.wording.RefusalWording.{RefusalWording}
 use Rattle.ga_display.specs.declared.wording.RefusalWording.TheVariants.{Advised}
 use Rattle.ga_console.specs.Commands.{SpellsCommand}
@@ -24,11 +20,12 @@ use Rattle.ga_explorer.specs.Commands.{explorer_command_of_line, explorer_comman
 use Rattle.ga_explorer.specs.Forms.{command_index_from_place}
 use Rattle.ga_explorer.specs.NoCommand.{command_word}
 use Rattle.ga_explorer.specs.Opening.{ExplorerState}
-use Rattle.ga_explorer.specs.Reading.{parse_run_arguments, parse_split_run_arguments, parse_single_order, parse_named_order, parse_seeded_run, parse_split_seeded_run, parse_run_bounds, parse_split_run_bounds, run_command_with_bounds, default_max_run_events, parse_back_arguments, parse_back_command_words}
+use Rattle.ga_explorer.specs.Reading.{parse_run_arguments, parse_back_arguments}
 use Rattle.ga_explorer.specs.declared.commands.ExplorerCommand.{ExplorerCommand}
-use Rattle.ga_explorer.specs.declared.commands.ExplorerCommand.TheVariants.{Run, BackUntil, AnswerQuery}
+use Rattle.ga_explorer.specs.declared.commands.ExplorerCommand.TheVariants as command
+use Rattle.ga_explorer.specs.declared.changes.Change.{Change}
 use Rattle.ga_explorer.specs.declared.commands.Query.{Query as Question}
-use Rattle.ga_explorer.specs.declared.forms.CommandClass.TheVariants.{Query, Change}
+use Rattle.ga_explorer.specs.declared.forms.CommandClass.TheVariants as class
 use Rattle.ga_explorer.proofs.LineAnswers.{same_explored}
 
 -- ---- queries
@@ -36,14 +33,14 @@ use Rattle.ga_explorer.proofs.LineAnswers.{same_explored}
 -- the row of this name is that of a query, if a query is spelled
 abbrev IsQueryRow : List ℕ → Option Question → Type 0
 IsQueryRow name None = Unit {0}
-IsQueryRow name (Some question) = command_class_of_name name ≡ Some Query
+IsQueryRow name (Some question) = command_class_of_name name ≡ Some class.Query
 
-any_query : (name : List ℕ) (asked : Option Question) → command_class_of_name name ≡ Some Query → IsQueryRow name asked
+any_query : (name : List ℕ) (asked : Option Question) → command_class_of_name name ≡ Some class.Query → IsQueryRow name asked
 any_query name None of = tt
 any_query name (Some question) of = of
 
 -- a branch of a test on the name
-query_if : (name word : List ℕ) (found others : Option Question) → command_class_of_name word ≡ Some Query → IsQueryRow name others
+query_if : (name word : List ℕ) (found others : Option Question) → command_class_of_name word ≡ Some class.Query → IsQueryRow name others
     → IsQueryRow name (if pointwise nat_eq name word then found else others)
 query_if name word found others of later = by_test (pointwise nat_eq name word) (bytes_eq-Decides name word).0 where
   by_test : (b : Bool) → (b ≡ true → name ≡ word) → IsQueryRow name (if b then found else others)
@@ -58,70 +55,6 @@ with_arguments : (name text : List ℕ) → IsQueryRow name (query_with_argument
 unfolding query_with_arguments command_table command_index_from_place
 with_arguments name text = search (rules, query_if)
 
--- ---- what `run` and `back until` spell changes the machine
-
-abbrev IsChange : Option ExplorerCommand → Type 0
-IsChange None = Unit {0}
-IsChange (Some asked) = class_of_explorer_command asked ≡ Change
-
-change_mapped : {A : Type 0} (o : Option A) (f : A → ExplorerCommand) → ((a : A) → class_of_explorer_command (f a) ≡ Change) → IsChange (option_map f o)
-change_mapped None f h = tt
-change_mapped (Some a) f h = h a
-
-change_then : {A : Type 0} (o : Option A) (f : A → Option ExplorerCommand) → ((a : A) → IsChange (f a)) → IsChange (option_and_then f o)
-change_then None f h = tt
-change_then (Some a) f h = h a
-
-change_if : (b : Bool) (x y : Option ExplorerCommand) → IsChange x → IsChange y → IsChange (if b then x else y)
-change_if true x y h k = h
-change_if false x y h k = k
-
-run_words : (notes : Option DebugInfo) (schedule : Schedule) (name text : List ℕ) → IsChange (run_command_with_bounds notes schedule name text)
-unfolding run_command_with_bounds
-run_words notes schedule name text =
-    change_if (pointwise nat_eq name (codes "until")) _ _
-    (change_mapped (parsed_run_conditions notes text) (Run schedule default_max_run_events) (λ until. refl))
-    (change_then (parse_number name) _ (λ most. change_then (parsed_until_conditions notes text) _ (λ until. refl)))
-
-run_bounds : (notes : Option DebugInfo) (schedule : Schedule) (text : List ℕ) → IsChange (parse_run_bounds notes schedule text)
-run_bounds notes schedule text = by_parts (split_at_space text) where
-  by_parts : (parts : Option (List ℕ × List ℕ)) → IsChange (parse_split_run_bounds notes parts schedule text)
-  by_parts None = change_mapped (parse_number text) (λ most. Run schedule most never_holding_conditions) (λ most. refl)
-  by_parts (Some parts) = run_words notes schedule parts.0 parts.1
-
-seeded_run : (notes : Option DebugInfo) (text : List ℕ) → IsChange (parse_seeded_run notes text)
-seeded_run notes text = by_parts (split_at_space text) where
-  by_parts : (parts : Option (List ℕ × List ℕ)) → IsChange (parse_split_seeded_run notes parts text)
-  by_parts None = change_mapped (parse_number text) (λ seed. Run (random_schedule seed) default_max_run_events never_holding_conditions) (λ seed. refl)
-  by_parts (Some parts) = change_then (parse_number parts.0) (λ seed. parse_run_bounds notes (random_schedule seed) parts.1) (λ seed. run_bounds notes (random_schedule seed) parts.1)
-
-single_order : (notes : Option DebugInfo) (text : List ℕ) → IsChange (parse_single_order notes text)
-unfolding parse_single_order
-single_order notes text = change_if (pointwise nat_eq text (codes "greedy")) (Some (Run greedy_schedule default_max_run_events never_holding_conditions)) _ refl (run_bounds notes round_robin_schedule text)
-
-named_order : (notes : Option DebugInfo) (name rest text : List ℕ) → IsChange (parse_named_order notes name rest text)
-unfolding parse_named_order
-named_order notes name rest text =
-    change_if (pointwise nat_eq name (codes "greedy")) _ _ (run_bounds notes greedy_schedule rest)
-    (change_if (pointwise nat_eq name (codes "random")) _ _ (seeded_run notes rest) (run_bounds notes round_robin_schedule text))
-
-run_arguments : (notes : Option DebugInfo) (text : List ℕ) → IsChange (parse_run_arguments notes text)
-run_arguments notes text = by_parts (split_at_space text) where
-  by_parts : (parts : Option (List ℕ × List ℕ)) → IsChange (parse_split_run_arguments notes parts text)
-  by_parts None = single_order notes text
-  by_parts (Some parts) = named_order notes parts.0 parts.1 text
-
-back_words : (notes : Option DebugInfo) (name text : List ℕ) → IsChange (parse_back_command_words notes name text)
-unfolding parse_back_command_words
-back_words notes name text =
-    change_if (pointwise nat_eq name (codes "until")) _ _
-    (change_mapped (parsed_run_conditions notes text) (BackUntil None) (λ until. refl))
-    (change_then (parse_node name) _ (λ node. change_then (parsed_until_conditions notes text) _ (λ until. refl)))
-
-back_arguments : (notes : Option DebugInfo) (text : List ℕ) → IsChange (parse_back_arguments notes text)
-unfolding parse_back_arguments
-back_arguments notes text = change_then (split_at_space text) (λ parts. parse_back_command_words notes parts.0 parts.1) (λ parts. back_words notes parts.0 parts.1)
-
 -- ---- commands of exploring
 
 -- the row of this name has the class of the command, if one is spelled
@@ -129,30 +62,30 @@ abbrev IsItsRow : List ℕ → Option ExplorerCommand → Type 0
 IsItsRow name None = Unit {0}
 IsItsRow name (Some asked) = command_class_of_name name ≡ Some (class_of_explorer_command asked)
 
-change_row : (name : List ℕ) (asked : Option ExplorerCommand) → command_class_of_name name ≡ Some Change → IsChange asked → IsItsRow name asked
-change_row name None of h = tt
-change_row name (Some asked) of h = of ∙ ap (λ z. Some z) (sym h)
+change_row : (name : List ℕ) (asked : Option Change) → command_class_of_name name ≡ Some class.Change → IsItsRow name (option_map command.Change asked)
+change_row name None of = tt
+change_row name (Some change) of = of
 
-query_row : (name : List ℕ) (asked : Option Question) → IsQueryRow name asked → IsItsRow name (option_map AnswerQuery asked)
+query_row : (name : List ℕ) (asked : Option Question) → IsQueryRow name asked → IsItsRow name (option_map command.AnswerQuery asked)
 query_row name None h = tt
 query_row name (Some question) h = h
 
-row_if : (name word : List ℕ) (found others : Option ExplorerCommand) → command_class_of_name word ≡ Some Change → IsChange found → IsItsRow name others
-    → IsItsRow name (if pointwise nat_eq name word then found else others)
+row_if : (name word : List ℕ) (found others : Option ExplorerCommand) → command_class_of_name word ≡ Some class.Change
+    → (command_class_of_name name ≡ Some class.Change → IsItsRow name found) → IsItsRow name others → IsItsRow name (if pointwise nat_eq name word then found else others)
 row_if name word found others of change later = by_test (pointwise nat_eq name word) (bytes_eq-Decides name word).0 where
   by_test : (b : Bool) → (b ≡ true → name ≡ word) → IsItsRow name (if b then found else others)
-  by_test true is = change_row name found (ap command_class_of_name (is refl) ∙ of) change
+  by_test true is = change (ap command_class_of_name (is refl) ∙ of)
   by_test false is = later
 
 single_row : (name : List ℕ) → IsItsRow name (single_word_command name)
 unfolding single_word_command command_table command_index_from_place
-single_row name = row_if name (codes "run") (Some (Run round_robin_schedule default_max_run_events never_holding_conditions)) _ refl refl (query_row name (query_without_arguments name) (bare name))
+single_row name = row_if name (codes "run") _ _ refl (λ of. of) (query_row name (query_without_arguments name) (bare name))
 
 arguments_row : (notes : Option DebugInfo) (name text : List ℕ) → IsItsRow name (command_with_arguments notes name text)
 unfolding command_with_arguments command_table command_index_from_place
 arguments_row notes name text =
-    row_if name (codes "run") _ _ refl (run_arguments notes text) (
-    row_if name (codes "back") _ _ refl (back_arguments notes text) (query_row name (query_with_arguments name text) (with_arguments name text)))
+    row_if name (codes "run") _ _ refl (change_row name (parse_run_arguments notes text)) (
+    row_if name (codes "back") _ _ refl (change_row name (parse_back_arguments notes text)) (query_row name (query_with_arguments name text) (with_arguments name text)))
 
 row_of_parts : (notes : Option DebugInfo) (parts : Option (List ℕ × List ℕ)) (line : List ℕ) → IsItsRow (command_word parts line) (explorer_command_of_split_line notes parts line)
 row_of_parts notes None line = single_row line
@@ -179,30 +112,30 @@ debugged_class Quit line is = rw is refl
 
 -- ---- what is no change leaves the machine as it is
 
-explored_same : (e : ExplorerState) (asked : ExplorerCommand) (answer : List ℕ) (new : ExplorerState) → class_of_explorer_command asked ≢ Change → AnswersExplorerCommand e asked answer new → new ≡ e
-explored_same e (AnswerQuery question) answer new other_class does = does.1
-explored_same e other answer new other_class does = absurd (other_class refl)
+explored_same : (e : ExplorerState) (asked : ExplorerCommand) (answer : List ℕ) (new : ExplorerState) → class_of_explorer_command asked ≢ class.Change → AnswersExplorerCommand e asked answer new → new ≡ e
+explored_same e (command.AnswerQuery question) answer new other_class does = does.1
+explored_same e (command.Change change) answer new other_class does = absurd (other_class refl)
 
-reply_same : (w : RefusalWording) (s : MachineState) (c : DebuggerCommand) → class_of_debugger_command c ≢ Change → (reply_in_wording w s c).1 ≡ s
+reply_same : (w : RefusalWording) (s : MachineState) (c : DebuggerCommand) → class_of_debugger_command c ≢ class.Change → (reply_in_wording w s c).1 ≡ s
 reply_same w s (Step node) other_class = absurd (other_class refl)
 reply_same w s Back other_class = absurd (other_class refl)
 reply_same w s (Rewind node k) other_class = absurd (other_class refl)
 reply_same w s other other_class = refl
 
-does_same : (w : RefusalWording) (s : MachineState) (c : DebuggerCommand) (answer : List ℕ) (new : MachineState) → class_of_debugger_command c ≢ Change → IsCommandReply w s c answer new → new ≡ s
+does_same : (w : RefusalWording) (s : MachineState) (c : DebuggerCommand) (answer : List ℕ) (new : MachineState) → class_of_debugger_command c ≢ class.Change → IsCommandReply w s c answer new → new ≡ s
 does_same w s c answer new other_class (inl e) = ap (λ (r : Reply). r.1) e ∙ reply_same w s c other_class
 does_same w s c answer new other_class (inr refused) = refused.2
 
-line_same : (s : MachineState) (line answer : List ℕ) (new : MachineState) → command_class_of_line line ≢ Some Change → IsAnswerInWording Advised s line answer new → new ≡ s
+line_same : (s : MachineState) (line answer : List ℕ) (new : MachineState) → command_class_of_line line ≢ Some class.Change → IsAnswerInWording Advised s line answer new → new ≡ s
 line_same s line answer new other_class (long past text same) = same
 line_same s line answer new other_class (command c short spelled does) = does_same Advised s c answer new (λ is. other_class (debugged_class c line spelled ∙ ap (λ z. Some z) is)) does
 line_same s line answer new other_class (syntax short none text same) = same
 
-other_same : (s : MachineState) (line answer : List ℕ) (new : MachineState) → command_class_of_line line ≢ Some Change → AnswersNonExplorerLine s line answer new → new ≡ s
+other_same : (s : MachineState) (line answer : List ℕ) (new : MachineState) → command_class_of_line line ≢ Some class.Change → AnswersNonExplorerLine s line answer new → new ≡ s
 other_same s line answer new other_class (inl of) = line_same s line answer new other_class of.1
 other_same s line answer new other_class (inr none) = none.2
 
-pub no_change_same : (e : ExplorerState) (line answer : List ℕ) (new : ExplorerState) → command_class_of_line line ≢ Some Change → AnswersExplorerLine e line answer new → new ≡ e
+pub no_change_same : (e : ExplorerState) (line answer : List ℕ) (new : ExplorerState) → command_class_of_line line ≢ Some class.Change → AnswersExplorerLine e line answer new → new ≡ e
 no_change_same e line answer new other_class (explored asked short spelled does) =
     explored_same e asked answer new (λ is. other_class (explored_class e.notes line asked spelled ∙ ap (λ z. Some z) is)) does
 no_change_same e line answer new other_class (debugged none other notes) = same_explored e new (other_same e.lab line answer new.lab other_class other) notes

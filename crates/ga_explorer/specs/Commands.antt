@@ -1,20 +1,14 @@
 -- The commands of exploring: of each how a line spells it, what it answers, and what `help` says of it (docs/REFERENCE.md, "Exploring";
 -- this project's own).
-use Rattle.std.specs.Prelude.{◌≡◌, ℕ, ◌≤◌, nat_eq, if◌then◌else◌, List, [], ◌∷◌, length, slice_get, codes, Option, Some, None, option_map, option_and_then}
+use Rattle.std.specs.Prelude.{◌≡◌, ℕ, nat_eq, if◌then◌else◌, List, [], ◌∷◌, slice_get, codes, Option, Some, None, option_map, option_and_then}
 use Rattle.std.specs.Cmp.Lexicographic.{pointwise}
 use Rattle.ga_text.specs.Lines.{Text, Line}
 use Rattle.ga_text.specs.Parsing.{split_at_space, parse_node}
 use Rattle.ga_ports.specs.Steps.{◌>>=◌}
-use Rattle.ga_lab.specs.Machine.{MachineState}
-use Rattle.ga_scheduler.specs.Conditions.{conditions_before_never}
-use Rattle.ga_scheduler.specs.Backward.{find_newest_matching_event, machine_after_back_until, event_count_removed_by_back_until}
-use Rattle.ga_scheduler.specs.Running.{scheduled_machine, run_after_events, CanMakeNextEvents, HasRunEnded}
 use Rattle.ga_scheduler.specs.Schedules.{round_robin_schedule}
-use Rattle.ga_scheduler.specs.declared.schedule.Schedule.{Schedule}
-use Rattle.ga_scheduler.specs.declared.condition.Condition.{Condition}
-use Rattle.ga_scheduler.specs.declared.running.RunEnd.{RunEnd}
 use Rattle.ga_debug_info.specs.declared.notes.DebugInfo.{DebugInfo}
-use Rattle.ga_explorer_text.specs.Texts.{run_end_text, back_until_result_text, link_words_text, chip_text}
+use Rattle.ga_lab.specs.Machine.{MachineState}
+use Rattle.ga_explorer_text.specs.Texts.{link_words_text, chip_text}
 use Rattle.ga_explorer_text.specs.Effects.{IsRollbackEffectsAnswer}
 use Rattle.ga_explorer_text.specs.Telling.{IsWaitingNodesAnswer}
 use Rattle.ga_explorer_text.specs.Saved.{saved_session_text}
@@ -28,10 +22,15 @@ use Rattle.ga_explorer.specs.Reading.{part_of_node_value, parse_run_arguments, p
 use Rattle.ga_conditions.specs.Conditions.{never_holding_conditions}
 use Rattle.ga_explorer.specs.Forms.{CommandEntry, entry_of_query_command, entry_of_changing_command, command_index_from_place, command_rows_text, optional_command_details_text}
 use Rattle.ga_explorer.specs.Opening.{ExplorerState}
+use Rattle.ga_explorer.specs.Changes.{change_result_text, IsChangeResult}
+use Rattle.ga_explorer.specs.declared.changes.Change.TheVariants as change
+use Rattle.ga_explorer.specs.declared.changes.ChangeResult.{ChangeResult}
 use Rattle.ga_explorer.specs.declared.commands.ExplorerCommand.{ExplorerCommand}
 use Rattle.ga_explorer.specs.declared.commands.ExplorerCommand.TheVariants as asked
 use Rattle.ga_explorer.specs.declared.commands.Query.{Query}
 use Rattle.ga_explorer.specs.declared.commands.Query.TheVariants as told
+use Rattle.ga_explorer.specs.declared.text_query.TextQuery.{TextQuery}
+use Rattle.ga_explorer.specs.declared.text_query.TextQuery.TheVariants as plain
 
 -- ---- what `help` says of them
 
@@ -77,9 +76,9 @@ unfoldable pub query_without_arguments : Line → Option Query
 query_without_arguments name =
     if pointwise nat_eq name (codes "who") then Some told.WaitingNodes
     else if pointwise nat_eq name (codes "races") then Some (told.Races None)
-    else if pointwise nat_eq name (codes "chip") then Some told.Chip
-    else if pointwise nat_eq name (codes "save") then Some told.Save
-    else if pointwise nat_eq name (codes "help") then Some told.Help
+    else if pointwise nat_eq name (codes "chip") then Some (told.Text plain.Chip)
+    else if pointwise nat_eq name (codes "save") then Some (told.Text plain.Save)
+    else if pointwise nat_eq name (codes "help") then Some (told.Text plain.Help)
     else None
 
 -- a query, of a word and what follows it
@@ -104,20 +103,20 @@ query_with_arguments name text =
       it ← parse_node_and_steps text
       Some (told.Because it.0 it.1 it.2))
     else if pointwise nat_eq name (codes "races") then option_map (λ node. told.Races (Some node)) (parse_node text)
-    else if pointwise nat_eq name (codes "help") then option_map told.CommandHelp (command_index_of_name text)
+    else if pointwise nat_eq name (codes "help") then option_map (λ place. told.Text (plain.CommandHelp place)) (command_index_of_name text)
     else None
 
 -- a command of one word
 unfoldable pub single_word_command : Line → Option ExplorerCommand
 single_word_command name =
-    if pointwise nat_eq name (codes "run") then Some (asked.Run round_robin_schedule default_max_run_events never_holding_conditions)
+    if pointwise nat_eq name (codes "run") then Some (asked.Change (change.Run round_robin_schedule default_max_run_events never_holding_conditions))
     else option_map asked.AnswerQuery (query_without_arguments name)
 
 -- a command of a word and what follows it
 unfoldable pub command_with_arguments : Option DebugInfo → Line → Line → Option ExplorerCommand
 command_with_arguments notes name text =
-    if pointwise nat_eq name (codes "run") then parse_run_arguments notes text
-    else if pointwise nat_eq name (codes "back") then parse_back_arguments notes text
+    if pointwise nat_eq name (codes "run") then option_map asked.Change (parse_run_arguments notes text)
+    else if pointwise nat_eq name (codes "back") then option_map asked.Change (parse_back_arguments notes text)
     else option_map asked.AnswerQuery (query_with_arguments name text)
 
 abbrev pub explorer_command_of_split_line : Option DebugInfo → Option (Line × Line) → Line → Option ExplorerCommand
@@ -130,16 +129,19 @@ explorer_command_of_line notes line = explorer_command_of_split_line notes (spli
 
 -- ---- what one of exploring answers
 
--- Events were made in the order of the schedule, at most `most`, up to the first after which one of the conditions holds: the
--- text has how many and why the run ended, and the machine is the one after them.
-pub record IsRunResult (s : MachineState) (schedule : Schedule) (most : ℕ) (until : List Condition) (answer : Text) (new : MachineState) : Type 0 where
-  pub events : ℕ
-  pub end : RunEnd
-  pub made : CanMakeNextEvents (scheduled_machine s schedule) events
-  pub within : events ≤ most
-  pub ended : HasRunEnded (scheduled_machine s schedule) most until events end
-  pub state : new ≡ (run_after_events (scheduled_machine s schedule) events).state
-  pub text : answer ≡ run_end_text (length until) events end
+-- the word with which a line spells a query that only a text answers
+abbrev pub text_query_name : TextQuery → Text
+text_query_name plain.Chip = codes "chip"
+text_query_name plain.Save = codes "save"
+text_query_name plain.Help = codes "help"
+text_query_name (plain.CommandHelp place) = codes "help"
+
+-- its text
+abbrev pub text_query_text : MachineState → TextQuery → Text
+text_query_text s plain.Chip = chip_text s
+text_query_text s plain.Save = saved_session_text s
+text_query_text s plain.Help = command_rows_text command_table
+text_query_text s (plain.CommandHelp place) = command_help_text place
 
 -- the text of a query's answer
 abbrev pub AnswersQuery : ExplorerState → Query → Text → Type 0
@@ -151,15 +153,10 @@ AnswersQuery e (told.Whence node which value first) answer = IsValueOriginsAnswe
 AnswersQuery e (told.Because node which most) answer = answer ≡ decisions_before_step_text e.notes e.lab node (selected_step_number e.lab node which) most
 AnswersQuery e (told.Races only) answer = IsRacesAnswer e.lab only answer
 AnswersQuery e told.WaitingNodes answer = IsWaitingNodesAnswer e.lab answer
-AnswersQuery e told.Chip answer = answer ≡ chip_text e.lab
-AnswersQuery e told.Save answer = answer ≡ saved_session_text e.lab
-AnswersQuery e told.Help answer = answer ≡ command_rows_text command_table
-AnswersQuery e (told.CommandHelp place) answer = answer ≡ command_help_text place
+AnswersQuery e (told.Text query) answer = answer ≡ text_query_text e.lab query
 
 -- what is answered to a command of exploring, and what is explored then
 abbrev pub AnswersExplorerCommand : ExplorerState → ExplorerCommand → Text → ExplorerState → Type 0
-AnswersExplorerCommand e (asked.Run schedule most until) answer new = IsRunResult e.lab schedule most (conditions_before_never until) answer new.lab × (new.notes ≡ e.notes)
-AnswersExplorerCommand e (asked.BackUntil only until) answer new =
-    (answer ≡ back_until_result_text (event_count_removed_by_back_until only e.lab (find_newest_matching_event (conditions_before_never until) only e.lab)) (length new.lab.kept))
-    × (new.lab ≡ machine_after_back_until only e.lab (find_newest_matching_event (conditions_before_never until) only e.lab)) × (new.notes ≡ e.notes)
+AnswersExplorerCommand e (asked.Change change) answer new =
+    (came : ChangeResult) × IsChangeResult e.lab change came new.lab × (answer ≡ change_result_text came) × (new.notes ≡ e.notes)
 AnswersExplorerCommand e (asked.AnswerQuery question) answer new = AnswersQuery e question answer × (new ≡ e)

@@ -18,8 +18,8 @@ use Rattle.ga_scheduler.specs.Schedules.{round_robin_schedule, greedy_schedule, 
 use Rattle.ga_scheduler.specs.declared.schedule.Schedule.{Schedule}
 use Rattle.ga_debug_info.specs.declared.notes.DebugInfo.{DebugInfo}
 use Rattle.ga_conditions.specs.Conditions.{parsed_run_conditions, parsed_until_conditions, never_holding_conditions}
-use Rattle.ga_explorer.specs.declared.commands.ExplorerCommand.{ExplorerCommand}
-use Rattle.ga_explorer.specs.declared.commands.ExplorerCommand.TheVariants.{Run, BackUntil}
+use Rattle.ga_explorer.specs.declared.changes.Change.{Change}
+use Rattle.ga_explorer.specs.declared.changes.Change.TheVariants.{Run, BackUntil}
 
 -- ---- which part of a node a command means: RAM is below address 80 hexadecimal, ROM from there on
 
@@ -50,11 +50,11 @@ default_max_run_events = 4294967295
 
 -- ---- `run`
 
-abbrev pub run_until_command : Option DebugInfo → Schedule → ℕ → Line → Option ExplorerCommand
+abbrev pub run_until_command : Option DebugInfo → Schedule → ℕ → Line → Option Change
 run_until_command notes schedule most text = option_map (Run schedule most) (parsed_run_conditions notes text)
 
 -- `until COND`, or a number and `until COND`
-unfoldable pub run_command_with_bounds : Option DebugInfo → Schedule → Line → Line → Option ExplorerCommand
+unfoldable pub run_command_with_bounds : Option DebugInfo → Schedule → Line → Line → Option Change
 run_command_with_bounds notes schedule name text =
     if pointwise nat_eq name (codes "until") then run_until_command notes schedule default_max_run_events text
     else (do
@@ -62,50 +62,50 @@ run_command_with_bounds notes schedule name text =
       until ← parsed_until_conditions notes text
       Some (Run schedule most until))
 
-abbrev pub parse_split_run_bounds : Option DebugInfo → Option (Line × Line) → Schedule → Line → Option ExplorerCommand
+abbrev pub parse_split_run_bounds : Option DebugInfo → Option (Line × Line) → Schedule → Line → Option Change
 parse_split_run_bounds notes None schedule text = option_map (λ most. Run schedule most never_holding_conditions) (parse_number text)
 parse_split_run_bounds notes (Some parts) schedule text = run_command_with_bounds notes schedule parts.0 parts.1
 
 -- a number, `until COND`, or both
-abbrev pub parse_run_bounds : Option DebugInfo → Schedule → Line → Option ExplorerCommand
+abbrev pub parse_run_bounds : Option DebugInfo → Schedule → Line → Option Change
 parse_run_bounds notes schedule text = parse_split_run_bounds notes (split_at_space text) schedule text
 
-abbrev pub parse_split_seeded_run : Option DebugInfo → Option (Line × Line) → Line → Option ExplorerCommand
+abbrev pub parse_split_seeded_run : Option DebugInfo → Option (Line × Line) → Line → Option Change
 parse_split_seeded_run notes None text = option_map (λ seed. Run (random_schedule seed) default_max_run_events never_holding_conditions) (parse_number text)
 parse_split_seeded_run notes (Some parts) text = do
   seed ← parse_number parts.0
   parse_run_bounds notes (random_schedule seed) parts.1
 
 -- a seed, and what bounds the run
-abbrev pub parse_seeded_run : Option DebugInfo → Line → Option ExplorerCommand
+abbrev pub parse_seeded_run : Option DebugInfo → Line → Option Change
 parse_seeded_run notes text = parse_split_seeded_run notes (split_at_space text) text
 
 -- an order of one word, or what bounds a run in rounds
-unfoldable pub parse_single_order : Option DebugInfo → Line → Option ExplorerCommand
+unfoldable pub parse_single_order : Option DebugInfo → Line → Option Change
 parse_single_order notes text = if pointwise nat_eq text (codes "greedy") then Some (Run greedy_schedule default_max_run_events never_holding_conditions) else parse_run_bounds notes round_robin_schedule text
 
 -- an order with what follows it, or what bounds a run in rounds
-unfoldable pub parse_named_order : Option DebugInfo → Line → Line → Line → Option ExplorerCommand
+unfoldable pub parse_named_order : Option DebugInfo → Line → Line → Line → Option Change
 parse_named_order notes name rest text =
     if pointwise nat_eq name (codes "greedy") then parse_run_bounds notes greedy_schedule rest
     else if pointwise nat_eq name (codes "random") then parse_seeded_run notes rest
     else parse_run_bounds notes round_robin_schedule text
 
-abbrev pub parse_split_run_arguments : Option DebugInfo → Option (Line × Line) → Line → Option ExplorerCommand
+abbrev pub parse_split_run_arguments : Option DebugInfo → Option (Line × Line) → Line → Option Change
 parse_split_run_arguments notes None text = parse_single_order notes text
 parse_split_run_arguments notes (Some parts) text = parse_named_order notes parts.0 parts.1 text
 
 -- the arguments of `run`
-abbrev pub parse_run_arguments : Option DebugInfo → Line → Option ExplorerCommand
+abbrev pub parse_run_arguments : Option DebugInfo → Line → Option Change
 parse_run_arguments notes text = parse_split_run_arguments notes (split_at_space text) text
 
 -- ---- `back until`
 
-abbrev pub back_until_command : Option DebugInfo → Line → Option ExplorerCommand
+abbrev pub back_until_command : Option DebugInfo → Line → Option Change
 back_until_command notes text = option_map (BackUntil None) (parsed_run_conditions notes text)
 
 -- `until COND or COND ..`, or a node before it
-unfoldable pub parse_back_command_words : Option DebugInfo → Line → Line → Option ExplorerCommand
+unfoldable pub parse_back_command_words : Option DebugInfo → Line → Line → Option Change
 parse_back_command_words notes name text =
     if pointwise nat_eq name (codes "until") then back_until_command notes text
     else (do
@@ -114,7 +114,7 @@ parse_back_command_words notes name text =
       Some (BackUntil (Some node) until))
 
 -- the arguments of `back`
-unfoldable pub parse_back_arguments : Option DebugInfo → Line → Option ExplorerCommand
+unfoldable pub parse_back_arguments : Option DebugInfo → Line → Option Change
 parse_back_arguments notes text = do
   parts ← split_at_space text
   parse_back_command_words notes parts.0 parts.1

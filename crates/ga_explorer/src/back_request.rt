@@ -3,14 +3,14 @@
 ghost use Rattle.std.specs.Prelude.{◌≡◌};
 ghost use Rattle.ga_explorer.specs.Reading.{parse_back_arguments, parse_back_command_words, back_until_command};
 
-use crate::commands::ExplorerCommand;
+use crate::changes::Change;
 use ga_conditions::{parse_conditions, parse_until_conditions};
 use ga_debug_info::DebugInfo;
 use ga_text::{parse_node, split_at_space};
 
 /// What follows `back` and a space.
 #[tactic(auto, unfolding(crate::specs::Reading::parse_back_arguments))]
-pub(crate) fn parse_back(notes: &Option<DebugInfo>, text: &[u8]) -> Option<ExplorerCommand>
+pub(crate) fn parse_back(notes: &Option<DebugInfo>, text: &[u8]) -> Option<Change>
     ensures { result ≡ parse_back_arguments notes.now text.now }
 {
     let (name, rest) = split_at_space(text)?;
@@ -19,11 +19,7 @@ pub(crate) fn parse_back(notes: &Option<DebugInfo>, text: &[u8]) -> Option<Explo
 
 /// `until` and conditions, or a node before these.
 #[tactic(auto, unfolding(crate::specs::Reading::parse_back_command_words))]
-fn parse_back_command_words(
-    notes: &Option<DebugInfo>,
-    name: &[u8],
-    rest: &[u8],
-) -> Option<ExplorerCommand>
+fn parse_back_command_words(notes: &Option<DebugInfo>, name: &[u8], rest: &[u8]) -> Option<Change>
     ensures { result ≡ parse_back_command_words notes.now name.now rest.now }
 {
     match name {
@@ -31,7 +27,7 @@ fn parse_back_command_words(
         _ => {
             let node = parse_node(name)?;
             let until = parse_until_conditions(notes, rest)?;
-            Some(ExplorerCommand::BackUntil {
+            Some(Change::BackUntil {
                 only: Some(node),
                 until,
             })
@@ -39,10 +35,10 @@ fn parse_back_command_words(
     }
 }
 
-fn back_until_command(notes: &Option<DebugInfo>, text: &[u8]) -> Option<ExplorerCommand>
+fn back_until_command(notes: &Option<DebugInfo>, text: &[u8]) -> Option<Change>
     ensures { result ≡ back_until_command notes.now text.now }
 {
-    Some(ExplorerCommand::BackUntil {
+    Some(Change::BackUntil {
         only: None,
         until: parse_conditions(notes, text)?,
     })

@@ -11,17 +11,18 @@ use crate::arguments::{
     parse_two_nodes,
 };
 use crate::back_request::parse_back;
-use crate::forms::{place_of, say_command, say_help};
+use crate::changes::Change;
+use crate::forms::place_of;
 use crate::named_value::part_of_node_value;
 use crate::run_request::{MOST_EVENTS, parse_run};
-use ga_conditions::{RunConditions, never_holding_conditions};
+use crate::text_query::TextQuery;
+use ga_conditions::never_holding_conditions;
 use ga_console::StepSelector;
 use ga_debug_info::DebugInfo;
 use ga_event::NodePart;
 use ga_explorer_text::{
-    chip_overview, write_cell_writes, write_decisions_answer, write_link_words,
-    write_provenance_answer, write_races, write_rollback_effects, write_saved_session,
-    write_steps_around, write_waiting_nodes,
+    write_cell_writes, write_decisions_answer, write_link_words, write_provenance_answer,
+    write_races, write_rollback_effects, write_steps_around, write_waiting_nodes,
 };
 use ga_grid::NodeId;
 use ga_lab::Lab;
@@ -33,18 +34,8 @@ use std::io::Write;
 /// A command of exploring.
 #[derive(Clone, Copy, PartialEq, Eq)]
 pub enum ExplorerCommand {
-    /// `run`: makes events in the order of a schedule, at most `most`, up to one after which a condition holds.
-    Run {
-        schedule: Schedule,
-        most: u32,
-        until: RunConditions,
-    },
-    /// `back until`: undoes the history up to the newest event after which a condition held; for a node, rolls back its newest
-    /// such step.
-    BackUntil {
-        only: Option<NodeId>,
-        until: RunConditions,
-    },
+    /// A command that changes the machine.
+    Change(Change),
     /// A command that changes nothing.
     AnswerQuery(Query),
 }
@@ -93,14 +84,8 @@ pub enum Query {
     },
     /// `who`: writes who waits for whom, and which nodes are deadlocked.
     WaitingNodes,
-    /// `chip`: shows what each node does.
-    Chip,
-    /// `save`: writes debugger commands that make the history again.
-    Save,
-    /// `help`: shows the commands.
-    Help,
-    /// `help` of one command, by its place among them.
-    CommandHelp(usize),
+    /// One that only a text answers.
+    Text(TextQuery),
 }
 
 /// The command of exploring that a line spells, or none.
@@ -119,11 +104,11 @@ fn single_word_command(name: &[u8]) -> Option<ExplorerCommand>
     ensures { result ≡ single_word_command name.now }
 {
     match name {
-        b"run" => Some(ExplorerCommand::Run {
+        b"run" => Some(ExplorerCommand::Change(Change::Run {
             schedule: Schedule::round_robin_schedule(),
             most: MOST_EVENTS,
             until: never_holding_conditions(),
-        }),
+        })),
         _ => Some(ExplorerCommand::AnswerQuery(query_without_arguments(name)?)),
     }
 }
@@ -136,9 +121,9 @@ fn query_without_arguments(name: &[u8]) -> Option<Query>
     match name {
         b"who" => Some(Query::WaitingNodes),
         b"races" => Some(Query::Races { only: None }),
-        b"chip" => Some(Query::Chip),
-        b"save" => Some(Query::Save),
-        b"help" => Some(Query::Help),
+        b"chip" => Some(Query::Text(TextQuery::Chip)),
+        b"save" => Some(Query::Text(TextQuery::Save)),
+        b"help" => Some(Query::Text(TextQuery::Help)),
         _ => None,
     }
 }
@@ -153,9 +138,9 @@ fn command_with_arguments(
     ensures { result ≡ command_with_arguments notes.now name.now arguments.now }
 {
     if name == b"run".as_slice() {
-        parse_run(notes, arguments)
+        Some(ExplorerCommand::Change(parse_run(notes, arguments)?))
     } else if name == b"back".as_slice() {
-        parse_back(notes, arguments)
+        Some(ExplorerCommand::Change(parse_back(notes, arguments)?))
     } else {
         Some(ExplorerCommand::AnswerQuery(query_with_arguments(name, arguments)?))
     }
@@ -193,7 +178,7 @@ fn query_with_arguments(name: &[u8], arguments: &[u8]) -> Option<Query>
         let node = parse_node(arguments)?;
         Some(Query::Races { only: Some(node) })
     } else if name == b"help".as_slice() {
-        Some(Query::CommandHelp(place_of(arguments)?))
+        Some(Query::Text(TextQuery::CommandHelp(place_of(arguments)?)))
     } else {
         None
     }
@@ -239,10 +224,7 @@ pub(crate) fn answer_query<W: Write>(
         }
         Query::Races { only } => write_races(alloc, lab, only, writer),
         Query::WaitingNodes => write_waiting_nodes(lab, writer),
-        Query::Chip => writer.write_blocks(chip_overview(lab).as_slice()),
-        Query::Save => write_saved_session(lab, writer),
-        Query::Help => say_help(writer),
-        Query::CommandHelp(place) => say_command(place, writer),
+        Query::Text(query) => query.write_text(lab, writer),
     }
 }
 

@@ -7,6 +7,7 @@ ghost use Rattle.ga_explorer.specs.inner.{explorer_state};
 ghost use Rattle.ga_explorer.specs.Answers.{AnswersLineOrQuits, AnswersNonExplorerLine, IsDebuggerLine, IsNoDebuggerCommand};
 ghost use Rattle.ga_console.specs.Session.{AnswersOrQuitsLine};
 
+use crate::changes::write_change_result;
 use crate::commands::{ExplorerCommand, answer_query, parse_explorer_command};
 use crate::forms::write_syntax_error;
 use ga_console::{
@@ -17,7 +18,6 @@ use ga_debug_info::DebugInfo;
 use ga_display::RefusalWording;
 use ga_image::MAX_IMAGE_LINE_BYTES;
 use ga_lab::Lab;
-use ga_scheduler::{conditions_before_never, run_schedule};
 use ga_text::{WriteError, WriteResult, Writer};
 use std::alloc::Global;
 use std::io::Write;
@@ -156,23 +156,7 @@ fn explored<W: Write>(
         W.contents writer.old writer.new }
 {
     match asked {
-        ExplorerCommand::Run {
-            schedule,
-            most,
-            until,
-        } => {
-            let watched = conditions_before_never(&until);
-            let ran = run_schedule(lab, schedule, u64::from(most), watched);
-            writer.write_blocks(ga_explorer_text::run_result_text(&ran, watched.len()).as_slice())
-        }
-        ExplorerCommand::BackUntil { only, until } => {
-            ga_explorer_text::answer_back_until_command(
-                lab,
-                conditions_before_never(&until),
-                only,
-                writer,
-            )
-        }
+        ExplorerCommand::Change(change) => write_change_result(change.carry_out(lab), writer),
         ExplorerCommand::AnswerQuery(question) => answer_query(alloc, lab, notes, question, writer),
     }
 }

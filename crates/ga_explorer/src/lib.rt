@@ -4,6 +4,7 @@
 mod arguments;
 mod back_request;
 mod beginning;
+mod changes;
 mod command_table;
 mod commands;
 mod explorer;
@@ -13,17 +14,18 @@ mod named_value;
 mod opening;
 mod preload;
 mod prompting;
-mod query_answer;
 mod run_request;
 mod session;
 mod strict;
+mod text_query;
 
 pub use beginning::open_lab;
+pub use changes::{Change, ChangeResult};
 pub use commands::{ExplorerCommand, Query, parse_explorer_command};
 pub use explorer::{Explorer, answer_explorer_line};
 pub use forms::{CommandClass, QueryUsage, command_class_of_line, command_suggestion};
 pub use named_value::part_of_node_value;
 pub use preload::{complete_end_line, is_image_lacking_end_line};
-pub use query_answer::write_query_answer;
 pub use session::serve_explorer_session;
 pub use strict::{is_refusal_answer, report_session_end_status};
+pub use text_query::TextQuery;

@@ -3,7 +3,7 @@
 ghost use Rattle.std.specs.Prelude.{◌≡◌};
 ghost use Rattle.ga_explorer.specs.Reading.{parse_run_arguments, parse_single_order, parse_named_order, parse_seeded_run, parse_run_bounds, run_command_with_bounds, run_until_command};
 
-use crate::commands::ExplorerCommand;
+use crate::changes::Change;
 use ga_conditions::{never_holding_conditions, parse_conditions, parse_until_conditions};
 use ga_debug_info::DebugInfo;
 use ga_scheduler::Schedule;
@@ -13,7 +13,7 @@ use ga_text::{parse_number, split_at_space};
 pub(crate) const MOST_EVENTS: u32 = u32::MAX;
 
 /// What follows `run` and a space.
-pub(crate) fn parse_run(notes: &Option<DebugInfo>, text: &[u8]) -> Option<ExplorerCommand>
+pub(crate) fn parse_run(notes: &Option<DebugInfo>, text: &[u8]) -> Option<Change>
     ensures { result ≡ parse_run_arguments notes.now text.now }
 {
     match split_at_space(text) {
@@ -24,11 +24,11 @@ pub(crate) fn parse_run(notes: &Option<DebugInfo>, text: &[u8]) -> Option<Explor
 
 /// An order of one word, or what bounds a run in rounds.
 #[tactic(auto, unfolding(crate::specs::Reading::parse_single_order))]
-fn parse_single_order(notes: &Option<DebugInfo>, text: &[u8]) -> Option<ExplorerCommand>
+fn parse_single_order(notes: &Option<DebugInfo>, text: &[u8]) -> Option<Change>
     ensures { result ≡ parse_single_order notes.now text.now }
 {
     if text == b"greedy".as_slice() {
-        Some(ExplorerCommand::Run {
+        Some(Change::Run {
             schedule: Schedule::greedy_schedule(),
             most: MOST_EVENTS,
             until: never_holding_conditions(),
@@ -45,7 +45,7 @@ fn parse_named_order(
     name: &[u8],
     rest: &[u8],
     text: &[u8],
-) -> Option<ExplorerCommand>
+) -> Option<Change>
     ensures { result ≡ parse_named_order notes.now name.now rest.now text.now }
 {
     if name == b"greedy".as_slice() {
@@ -58,7 +58,7 @@ fn parse_named_order(
 }
 
 /// A seed, and what bounds the run.
-fn seeded_of(notes: &Option<DebugInfo>, text: &[u8]) -> Option<ExplorerCommand>
+fn seeded_of(notes: &Option<DebugInfo>, text: &[u8]) -> Option<Change>
     ensures { result ≡ parse_seeded_run notes.now text.now }
 {
     match split_at_space(text) {
@@ -68,7 +68,7 @@ fn seeded_of(notes: &Option<DebugInfo>, text: &[u8]) -> Option<ExplorerCommand>
         }
         None => {
             let seed = parse_number(text)?;
-            Some(ExplorerCommand::Run {
+            Some(Change::Run {
                 schedule: Schedule::random_schedule(u64::from(seed)),
                 most: MOST_EVENTS,
                 until: never_holding_conditions(),
@@ -78,12 +78,12 @@ fn seeded_of(notes: &Option<DebugInfo>, text: &[u8]) -> Option<ExplorerCommand>
 }
 
 /// A number, `until` and conditions, or both.
-fn bounded_of(notes: &Option<DebugInfo>, schedule: Schedule, text: &[u8]) -> Option<ExplorerCommand>
+fn bounded_of(notes: &Option<DebugInfo>, schedule: Schedule, text: &[u8]) -> Option<Change>
     ensures { result ≡ parse_run_bounds notes.now schedule text.now }
 {
     match split_at_space(text) {
         Some((name, rest)) => run_command_with_bounds(notes, schedule, name, rest),
-        None => Some(ExplorerCommand::Run {
+        None => Some(Change::Run {
             schedule,
             most: parse_number(text)?,
             until: never_holding_conditions(),
@@ -98,7 +98,7 @@ fn run_command_with_bounds(
     schedule: Schedule,
     name: &[u8],
     rest: &[u8],
-) -> Option<ExplorerCommand>
+) -> Option<Change>
     ensures { result ≡ run_command_with_bounds notes.now schedule name.now rest.now }
 {
     match name {
@@ -106,7 +106,7 @@ fn run_command_with_bounds(
         _ => {
             let most = parse_number(name)?;
             let until = parse_until_conditions(notes, rest)?;
-            Some(ExplorerCommand::Run {
+            Some(Change::Run {
                 schedule,
                 most,
                 until,
@@ -120,10 +120,10 @@ fn run_until_command(
     schedule: Schedule,
     most: u32,
     text: &[u8],
-) -> Option<ExplorerCommand>
+) -> Option<Change>
     ensures { result ≡ run_until_command notes.now schedule most text.now }
 {
-    Some(ExplorerCommand::Run {
+    Some(Change::Run {
         schedule,
         most,
         until: parse_conditions(notes, text)?,

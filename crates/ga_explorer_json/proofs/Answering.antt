@@ -1,28 +1,23 @@
 -- Answers to commands and queries.
-use Rattle.std.proofs.Common.{◌≡◌, ◌≤◌, ◌∙◌, ℕ, List, refl, sym, ap, subst, length, Result, Option, codes}
+use Rattle.std.proofs.Common.{◌≡◌, ℕ, List, refl, sym, subst, Result, Option}
 use Rattle.ga_text.specs.Lines.{Bytes}
 use Rattle.ga_text.specs.Output.{WritesExactly, WritesSomeText}
 use Rattle.ga_text.specs.declared.output.WriteError.{WriteError}
 use Rattle.ga_text.specs.declared.output.Writer.{Writer}
-use Rattle.ga_grid.specs.declared.node_id.NodeId.{NodeId}
 use Rattle.ga_lab.specs.Machine.{MachineState}
-use Rattle.ga_scheduler.specs.Conditions.{conditions_before_never}
-use Rattle.ga_scheduler.specs.Backward.{find_newest_matching_event, machine_after_back_until, event_count_removed_by_back_until}
-use Rattle.ga_scheduler.specs.Running.{ScheduledMachine, scheduled_machine, run_after_events, CanMakeNextEvents, HasRunEnded}
-use Rattle.ga_scheduler.specs.declared.schedule.Schedule.{Schedule}
-use Rattle.ga_scheduler.specs.declared.condition.Condition.{Condition}
-use Rattle.ga_scheduler.specs.declared.running.RunEnd.{RunEnd}
-use Rattle.ga_debug_info.specs.declared.notes.DebugInfo.{DebugInfo}
 use Rattle.ga_console.specs.declared.command.DebuggerCommand.{DebuggerCommand}
 use Rattle.ga_explorer.specs.Opening.{ExplorerState}
 use Rattle.ga_explorer.specs.inner.{explorer_state}
 use Rattle.ga_explorer.specs.declared.commands.ExplorerCommand.{ExplorerCommand}
-use Rattle.ga_explorer.specs.declared.commands.ExplorerCommand.TheVariants.{Run, BackUntil, AnswerQuery}
+use Rattle.ga_explorer.specs.declared.commands.ExplorerCommand.TheVariants as command
+use Rattle.ga_explorer.specs.Changes.{change_name, IsChangeResult}
+use Rattle.ga_explorer.specs.declared.changes.Change.{Change}
+use Rattle.ga_explorer.specs.declared.changes.ChangeResult.{ChangeResult}
 use Rattle.ga_explorer.specs.declared.commands.Query.{Query}
 use Rattle.ga_json.specs.Values.{JsonValue}
 use Rattle.ga_json.specs.Compact.{json_line}
 use Rattle.ga_explorer_json.specs.Rows.{IsJsonLine}
-use Rattle.ga_explorer_json.specs.Changes.{run_json, removal_counts_json}
+use Rattle.ga_explorer_json.specs.Changes.{change_result_json}
 use Rattle.ga_explorer_json.specs.Answers.{AnswersCommandJson, AnswersQueryJson, AnswersExplorerJson, AnswersLineRequest}
 use Rattle.ga_explorer_json.specs.inner.{IsQueryJsonWritten}
 use Rattle.ga_explorer_json.specs.declared.answers.LineRequest.{LineRequest}
@@ -59,34 +54,13 @@ module _ {T W : Type 0} (contents : W → Option Bytes) (result : Result T Write
 
   -- the answer of the query that is meant, after which nothing is changed
   pub queried : (e : ExplorerState) (asked : Query) (now : ExplorerState) → now ≡ e → IsQueryJsonWritten result e asked contents old new
-      → WritesSomeText result (λ text. AnswersExplorerJson e (AnswerQuery asked) text now) contents old new
+      → WritesSomeText result (λ text. AnswersExplorerJson e (command.AnswerQuery asked) text now) contents old new
   queried e asked now same told =
-      some_as (IsJsonLine (AnswersQueryJson e told.meant)) (λ text. AnswersExplorerJson e (AnswerQuery asked) text now)
+      some_as (IsJsonLine (AnswersQueryJson e told.meant)) (λ text. AnswersExplorerJson e (command.AnswerQuery asked) text now)
       (λ text h. (subst (λ z. IsJsonLine (AnswersQueryJson e z) text) (sym told.is) h, same)) told.said
 
-pub run_told : (s : MachineState) (notes : Option DebugInfo) (schedule : Schedule) (most bound : ℕ) (given until : List Condition) (events : ℕ) (end : RunEnd) (new : MachineState) (gone : Schedule)
-    → until ≡ conditions_before_never given → bound ≡ most → CanMakeNextEvents (scheduled_machine s schedule) events → events ≤ bound
-    → HasRunEnded (scheduled_machine s schedule) bound until events end → scheduled_machine new gone ≡ run_after_events (scheduled_machine s schedule) events
-    → AnswersExplorerJson (explorer_state s notes) (Run schedule most given) (json_line (run_json events end)) (explorer_state new notes)
-run_told s notes schedule most bound given until events end new gone given_so f made within ended state = (
-  record {
-    events = events;
-    end = end;
-    made = made;
-    within = subst (λ z. events ≤ z) f within;
-    ended = subst (λ z. HasRunEnded (scheduled_machine s schedule) most z events end) given_so (subst (λ z. HasRunEnded (scheduled_machine s schedule) z until events end) f ended);
-    state = ap (λ (r : ScheduledMachine). r.state) state;
-    line = refl;
-  },
-  refl,
-)
-
-pub back_told : (s : MachineState) (notes : Option DebugInfo) (only : Option NodeId) (until watched : List Condition) (now : MachineState)
-    → watched ≡ conditions_before_never until → now ≡ machine_after_back_until only s (find_newest_matching_event watched only s)
-    → AnswersExplorerJson (explorer_state s notes) (BackUntil only until)
-    (json_line (removal_counts_json (codes "back") (event_count_removed_by_back_until only s (find_newest_matching_event watched only s)) (length now.kept))) (explorer_state now notes)
-back_told s notes only until watched now w state = (
-  ap (λ (z : List Condition). json_line (removal_counts_json (codes "back") (event_count_removed_by_back_until only s (find_newest_matching_event z only s)) (length now.kept))) w,
-  state ∙ ap (λ (z : List Condition). machine_after_back_until only s (find_newest_matching_event z only s)) w,
-  refl,
-)
+-- the line of what a change came to
+pub changed : (e : ExplorerState) (asked : ExplorerCommand) (change : Change) (came : ChangeResult) (new : MachineState) → asked ≡ command.Change change → IsChangeResult e.lab change came new
+    → AnswersExplorerJson e asked (json_line (change_result_json (change_name change) came)) (explorer_state new e.notes)
+changed e asked change came new is h =
+    subst (λ (z : ExplorerCommand). AnswersExplorerJson e z (json_line (change_result_json (change_name change) came)) (explorer_state new e.notes)) (sym is) (came, h, refl, refl)

@@ -21,8 +21,6 @@ use Rattle.ga_lab.specs.declared.fault.LabFault.{LabFault}
 use Rattle.ga_lab.specs.declared.fault.LabFault.TheVariants.{Memory as NoMemory}
 use Rattle.ga_scheduler.specs.declared.running.RunEnd.{RunEnd}
 use Rattle.ga_scheduler.specs.declared.running.RunEnd.TheVariants.{ConditionHeld, MadeRequestedEvents as AllMade, Quiet, Refused}
-use Rattle.ga_scheduler.specs.Backward.{find_newest_matching_event, event_count_removed_by_back_until}
-use Rattle.ga_scheduler.specs.Conditions.{conditions_before_never}
 use Rattle.ga_display.specs.Texts.{worded_long_line_refusal}
 use Rattle.ga_display.specs.declared.wording.RefusalWording.TheVariants.{Advised}
 use Rattle.ga_console.specs.Replies.{first_node_lacking_step}
@@ -31,10 +29,17 @@ use Rattle.ga_console.specs.declared.command.DebuggerCommand.{DebuggerCommand}
 use Rattle.ga_console.specs.declared.command.DebuggerCommand.TheVariants.{Step, Back, Rewind, Node, Memory, Trace, Why, Count, Dump, Quit}
 use Rattle.ga_explorer.specs.Forms.{CommandEntry}
 use Rattle.ga_explorer.specs.NoCommand.{command_usage_of_name, usage_of_similar_command, command_usage_or_default, suggested_command_usage, command_word, begins_with_byte_order_mark, ends_with_carriage_return, has_leading_or_trailing_blank, has_upper_case_letter, command_suggestion}
-use Rattle.ga_explorer.specs.Commands.{command_table}
+use Rattle.ga_explorer.specs.Commands.{command_table, text_query_name, text_query_text}
 use Rattle.ga_explorer.specs.Opening.{ExplorerState}
 use Rattle.ga_console.specs.Selectors.{selected_step_number}
 use Rattle.ga_explorer.specs.Reading.{part_of_node_value}
+use Rattle.ga_explorer.specs.Changes.{change_name}
+use Rattle.ga_explorer.specs.declared.text_query.TextQuery.{TextQuery}
+use Rattle.ga_explorer.specs.declared.text_query.TextQuery.TheVariants as plain_query
+use Rattle.ga_explorer.specs.declared.changes.Change.{Change}
+use Rattle.ga_explorer.specs.declared.changes.Change.TheVariants.{Run, BackUntil}
+use Rattle.ga_explorer.specs.declared.changes.ChangeResult.{ChangeResult}
+use Rattle.ga_explorer.specs.declared.changes.ChangeResult.TheVariants.{RunEnded, EventsRemoved}
 use Rattle.ga_explorer.specs.declared.commands.ExplorerCommand.{ExplorerCommand}
 use Rattle.ga_explorer.specs.declared.commands.ExplorerCommand.TheVariants as asked
 use Rattle.ga_explorer.specs.declared.commands.Query.{Query}
@@ -43,7 +48,7 @@ use Rattle.ga_json.specs.Values.{JsonValue, number, string}
 use Rattle.ga_json.specs.Fields.{NamedValue}
 use Rattle.ga_json.specs.Compact.{IsWritableValue, AreWritableItems}
 use Rattle.ga_explorer_json.specs.Answers.{AnswersCommandJson, AnswersQueryJson, AnswersExplorerJson, IsRequestOfLine, AnswersLineRequest, AnswersJsonLine}
-use Rattle.ga_explorer_json.specs.Changes.{step_answer_json, IsStepJson, removal_counts_json, undo_json, rewind_json, held_condition_fields, run_end_fields, run_json}
+use Rattle.ga_explorer_json.specs.Changes.{step_answer_json, IsStepJson, removal_counts_json, undo_json, rewind_json, held_condition_fields, run_end_fields, run_json, change_result_json}
 use Rattle.ga_explorer_json.specs.Events.{made_event_fields}
 use Rattle.ga_explorer_json.specs.JsonLines.{IsValidJsonLine, IsJsonLineUnlessQuit}
 use Rattle.ga_explorer_json.specs.NodeState.{node_status_fields, node_register_fields, node_fields, stack_part_at_index, stack_rows, node_json}
@@ -99,11 +104,20 @@ run_end_utf8 AllMade = fields (run_end_fields AllMade) refl (plain (codes "made"
 run_end_utf8 Quiet = fields (run_end_fields Quiet) refl (plain (codes "quiet") refl, tt)
 run_end_utf8 (Refused why) = fields (run_end_fields (Refused why)) refl (fault_word_utf8 why, (fault_hint_utf8 why, tt))
 
-run_utf8 : (events : ℕ) (end : RunEnd) → IsWritableValue (run_json events end)
+run_utf8 : (command : Text) (events : ℕ) (end : RunEnd) → IsUtf8 command → IsWritableValue (run_json command events end)
 unfolding is_low are_named
-run_utf8 events end =
-    let first : List NamedValue = (codes "command", string (codes "run")) ∷ (codes "events", number (pos events)) ∷ [] in
-    json_object_of_member (first ++ run_end_fields end) (fields_append first (run_end_fields end) (fields first refl (plain (codes "run") refl, (tt, tt))) (run_end_utf8 end))
+run_utf8 command events end h =
+    let first : List NamedValue = (codes "command", string command) ∷ (codes "events", number (pos events)) ∷ [] in
+    json_object_of_member (first ++ run_end_fields end) (fields_append first (run_end_fields end) (fields first refl (h, (tt, tt))) (run_end_utf8 end))
+
+change_name_utf8 : (change : Change) → IsUtf8 (change_name change)
+unfolding is_low
+change_name_utf8 (Run schedule most until) = plain (codes "run") refl
+change_name_utf8 (BackUntil only until) = plain (codes "back") refl
+
+change_result_utf8 : (command : Text) (came : ChangeResult) → IsUtf8 command → IsWritableValue (change_result_json command came)
+change_result_utf8 command (RunEnded ran conditions) h = run_utf8 command ran.events ran.end h
+change_result_utf8 command (EventsRemoved removed kept) h = removed_utf8 command removed kept h
 
 -- ---- readings
 
@@ -248,6 +262,13 @@ command_answer s Count line answer new is h = inr (is_json_line (history_counts_
 command_answer s Dump line answer new is h = inr (line_of (IsDumpJson s) answer (dump_utf8 s) h.0)
 command_answer s Quit line answer new is h = inl (is, h.0)
 
+text_query_name_utf8 : (asked : TextQuery) → IsUtf8 (text_query_name asked)
+unfolding is_low
+text_query_name_utf8 plain_query.Chip = plain (codes "chip") refl
+text_query_name_utf8 plain_query.Save = plain (codes "save") refl
+text_query_name_utf8 plain_query.Help = plain (codes "help") refl
+text_query_name_utf8 (plain_query.CommandHelp place) = plain (codes "help") refl
+
 query_utf8 : (e : ExplorerState) (asked : Query) (answer : JsonValue) → AnswersQueryJson e asked answer → IsWritableValue answer
 unfolding is_low
 query_utf8 e (query.Effects node which) answer h = effects_utf8 e.notes e.lab node (selected_step_number e.lab node which) answer h
@@ -259,17 +280,11 @@ query_utf8 e (query.Whence node which queried first) answer h =
 query_utf8 e (query.Because node which most) answer h = as_value answer _ h (because_utf8 e.notes e.lab node (selected_step_number e.lab node which) most)
 query_utf8 e (query.Races only) answer h = races_utf8 e.lab only answer h
 query_utf8 e query.WaitingNodes answer h = who_utf8 e.lab answer h
-query_utf8 e query.Chip answer h = as_value answer _ h.2 (text_utf8 (codes "chip") h.0 (plain (codes "chip") refl))
-query_utf8 e query.Save answer h = as_value answer _ h.2 (text_utf8 (codes "save") h.0 (plain (codes "save") refl))
-query_utf8 e query.Help answer h = as_value answer _ h.2 (text_utf8 (codes "help") h.0 (plain (codes "help") refl))
-query_utf8 e (query.CommandHelp place) answer h = as_value answer _ h.2 (text_utf8 (codes "help") h.0 (plain (codes "help") refl))
+query_utf8 e (query.Text asked) answer h = as_value answer _ h (text_utf8 (text_query_name asked) (text_query_text e.lab asked) (text_query_name_utf8 asked))
 
 explorer_answer : (e : ExplorerState) (command : ExplorerCommand) (answer : Text) (new : ExplorerState) → AnswersExplorerJson e command answer new → IsValidJsonLine answer
-unfolding is_low
-explorer_answer e (asked.Run schedule most until) answer new h = is_json_line (run_json h.0.events h.0.end) answer h.0.line (run_utf8 h.0.events h.0.end)
-explorer_answer e (asked.BackUntil only until) answer new h =
-    let removed = event_count_removed_by_back_until only e.lab (find_newest_matching_event (conditions_before_never until) only e.lab) in
-    is_json_line (removal_counts_json (codes "back") removed (length new.lab.kept)) answer h.0 (removed_utf8 (codes "back") removed (length new.lab.kept) (plain (codes "back") refl))
+explorer_answer e (asked.Change change) answer new h =
+    is_json_line (change_result_json (change_name change) h.0) answer h.2 (change_result_utf8 (change_name change) h.0 (change_name_utf8 change))
 explorer_answer e (asked.AnswerQuery question) answer new h = line_of (AnswersQueryJson e question) answer (query_utf8 e question) h.0
 
 request_answer : (e : ExplorerState) (line : Line) (asked : LineRequest) (answer : Text) (new : ExplorerState) → IsRequestOfLine e.notes line asked

@@ -4,18 +4,14 @@ use Rattle.ga_text.specs.Lines.{Text, Line, max_input_line}
 use Rattle.ga_event.specs.Told.{count_steps}
 use Rattle.ga_lab.specs.Machine.{MachineState, undo_answer, rewind_answer, state_after_undo, state_after_rewind}
 use Rattle.ga_debug_info.specs.declared.notes.DebugInfo.{DebugInfo}
-use Rattle.ga_scheduler.specs.Conditions.{conditions_before_never}
-use Rattle.ga_scheduler.specs.Backward.{find_newest_matching_event, machine_after_back_until, event_count_removed_by_back_until}
-use Rattle.ga_scheduler.specs.Running.{scheduled_machine, run_after_events, CanMakeNextEvents, HasRunEnded}
-use Rattle.ga_scheduler.specs.declared.schedule.Schedule.{Schedule}
-use Rattle.ga_scheduler.specs.declared.condition.Condition.{Condition}
-use Rattle.ga_scheduler.specs.declared.running.RunEnd.{RunEnd}
 use Rattle.ga_console.specs.Commands.{SpellsCommand}
 use Rattle.ga_console.specs.declared.command.DebuggerCommand.{DebuggerCommand}
 use Rattle.ga_console.specs.declared.command.DebuggerCommand.TheVariants.{Step, Back, Rewind, Node, Memory, Trace, Why, Count, Dump, Quit}
 use Rattle.ga_console.specs.Selectors.{selected_step_number}
 use Rattle.ga_explorer.specs.Reading.{part_of_node_value}
-use Rattle.ga_explorer.specs.Commands.{explorer_command_of_line}
+use Rattle.ga_explorer.specs.Changes.{change_name, IsChangeResult}
+use Rattle.ga_explorer.specs.Commands.{explorer_command_of_line, text_query_name, text_query_text}
+use Rattle.ga_explorer.specs.declared.changes.ChangeResult.{ChangeResult}
 use Rattle.ga_explorer.specs.Opening.{ExplorerState}
 use Rattle.ga_explorer.specs.declared.commands.ExplorerCommand.{ExplorerCommand}
 use Rattle.ga_explorer.specs.declared.commands.ExplorerCommand.TheVariants as asked
@@ -24,7 +20,7 @@ use Rattle.ga_explorer.specs.declared.commands.Query.TheVariants as query
 use Rattle.ga_json.specs.Values.{JsonValue}
 use Rattle.ga_json.specs.Compact.{json_line}
 use Rattle.ga_explorer_json.specs.Rows.{IsJsonLine}
-use Rattle.ga_explorer_json.specs.Changes.{IsStepJson, undo_json, rewind_json, removal_counts_json, run_json}
+use Rattle.ga_explorer_json.specs.Changes.{IsStepJson, undo_json, rewind_json, change_result_json}
 use Rattle.ga_explorer_json.specs.NodeState.{node_json}
 use Rattle.ga_explorer_json.specs.Readings.{memory_word_json, history_counts_json}
 use Rattle.ga_explorer_json.specs.Steps.{IsTraceJson, IsWhyJson, IsDumpJson}
@@ -36,7 +32,7 @@ use Rattle.ga_explorer_json.specs.Whence.{IsProvenanceJson}
 use Rattle.ga_explorer_json.specs.Because.{decisions_answer_json}
 use Rattle.ga_explorer_json.specs.Races.{IsRacesJson}
 use Rattle.ga_explorer_json.specs.Who.{IsWaitingNodesJson}
-use Rattle.ga_explorer_json.specs.Texts.{IsTextAnswerOfQuery, long_line_refusal_json, syntax_refusal_of_line}
+use Rattle.ga_explorer_json.specs.Texts.{text_answer_json, long_line_refusal_json, syntax_refusal_of_line}
 use Rattle.ga_explorer_json.specs.declared.answers.LineRequest.{LineRequest}
 use Rattle.ga_explorer_json.specs.declared.answers.LineRequest.TheVariants as request
 
@@ -57,7 +53,7 @@ AnswersCommandJson s Quit answer new = (answer ≡ []) × (new ≡ s)
 
 -- ---- a command of exploring
 
--- a query; of one without rows the text
+-- a query
 abbrev pub AnswersQueryJson : ExplorerState → Query → JsonValue → Type 0
 AnswersQueryJson e (query.Effects node which) answer = IsRollbackEffectsJson e.notes e.lab node (selected_step_number e.lab node which) answer
 AnswersQueryJson e (query.Words from to) answer = answer ≡ link_words_answer_json e.lab from to
@@ -68,26 +64,11 @@ AnswersQueryJson e (query.Whence node which value first) answer =
 AnswersQueryJson e (query.Because node which most) answer = answer ≡ decisions_answer_json e.notes e.lab node (selected_step_number e.lab node which) most
 AnswersQueryJson e (query.Races only) answer = IsRacesJson e.lab only answer
 AnswersQueryJson e query.WaitingNodes answer = IsWaitingNodesJson e.lab answer
-AnswersQueryJson e query.Chip answer = IsTextAnswerOfQuery (codes "chip") e query.Chip answer
-AnswersQueryJson e query.Save answer = IsTextAnswerOfQuery (codes "save") e query.Save answer
-AnswersQueryJson e query.Help answer = IsTextAnswerOfQuery (codes "help") e query.Help answer
-AnswersQueryJson e (query.CommandHelp place) answer = IsTextAnswerOfQuery (codes "help") e (query.CommandHelp place) answer
-
--- Events were made as a run makes them: the answer has how many and why the run ended, and the machine is the one after them.
-pub record IsRunJson (s : MachineState) (schedule : Schedule) (most : ℕ) (until : List Condition) (answer : Text) (new : MachineState) : Type 0 where
-  pub events : ℕ
-  pub end : RunEnd
-  pub made : CanMakeNextEvents (scheduled_machine s schedule) events
-  pub within : events ≤ most
-  pub ended : HasRunEnded (scheduled_machine s schedule) most until events end
-  pub state : new ≡ (run_after_events (scheduled_machine s schedule) events).state
-  pub line : answer ≡ json_line (run_json events end)
+AnswersQueryJson e (query.Text asked) answer = answer ≡ text_answer_json (text_query_name asked) (text_query_text e.lab asked)
 
 abbrev pub AnswersExplorerJson : ExplorerState → ExplorerCommand → Text → ExplorerState → Type 0
-AnswersExplorerJson e (asked.Run schedule most until) answer new = IsRunJson e.lab schedule most (conditions_before_never until) answer new.lab × (new.notes ≡ e.notes)
-AnswersExplorerJson e (asked.BackUntil only until) answer new =
-    (answer ≡ json_line (removal_counts_json (codes "back") (event_count_removed_by_back_until only e.lab (find_newest_matching_event (conditions_before_never until) only e.lab)) (length new.lab.kept)))
-    × (new.lab ≡ machine_after_back_until only e.lab (find_newest_matching_event (conditions_before_never until) only e.lab)) × (new.notes ≡ e.notes)
+AnswersExplorerJson e (asked.Change change) answer new =
+    (came : ChangeResult) × IsChangeResult e.lab change came new.lab × (answer ≡ json_line (change_result_json (change_name change) came)) × (new.notes ≡ e.notes)
 AnswersExplorerJson e (asked.AnswerQuery question) answer new = IsJsonLine (AnswersQueryJson e question) answer × (new ≡ e)
 
 -- ---- a line

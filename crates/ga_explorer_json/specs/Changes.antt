@@ -8,6 +8,8 @@ use Rattle.ga_lab.specs.declared.fault.LabFault.{LabFault}
 use Rattle.ga_lab.specs.declared.fault.LabFault.TheVariants.{Memory}
 use Rattle.ga_scheduler.specs.declared.running.RunEnd.{RunEnd}
 use Rattle.ga_scheduler.specs.declared.running.RunEnd.TheVariants.{ConditionHeld, MadeRequestedEvents as AllMade, Quiet, Refused}
+use Rattle.ga_explorer.specs.declared.changes.ChangeResult.{ChangeResult}
+use Rattle.ga_explorer.specs.declared.changes.ChangeResult.TheVariants.{RunEnded, EventsRemoved}
 use Rattle.ga_json.specs.Values.{JsonValue, number, string}
 use Rattle.ga_json.specs.Fields.{NamedValue, json_object}
 use Rattle.ga_explorer_json.specs.Events.{made_event_fields}
@@ -56,5 +58,11 @@ run_end_fields Quiet = (codes "end", string (codes "quiet")) ∷ []
 run_end_fields (Refused why) = (codes "end", string (lab_fault_keyword why)) ∷ (codes "hint", string (lab_fault_hint why)) ∷ []
 
 -- how many events were made, and why no more
-abbrev pub run_json : ℕ → RunEnd → JsonValue
-run_json events end = json_object (((codes "command", string (codes "run")) ∷ (codes "events", number (pos events)) ∷ []) ++ run_end_fields end)
+abbrev pub run_json : Text → ℕ → RunEnd → JsonValue
+run_json command events end = json_object (((codes "command", string command) ∷ (codes "events", number (pos events)) ∷ []) ++ run_end_fields end)
+
+-- ---- a change of exploring, by its name
+
+abbrev pub change_result_json : Text → ChangeResult → JsonValue
+change_result_json command (RunEnded ran conditions) = run_json command ran.events ran.end
+change_result_json command (EventsRemoved removed kept) = removal_counts_json command removed kept

@@ -8,17 +8,10 @@ use Rattle.ga_display.specs.Texts.{worded_long_line_refusal}
 use Rattle.ga_display.specs.declared.wording.RefusalWording.TheVariants.{Advised}
 use Rattle.ga_explorer_json.specs.Refusals.{hint_of_refusal}
 use Rattle.ga_explorer.specs.NoCommand.{command_suggestion}
-use Rattle.ga_explorer.specs.Commands.{AnswersQuery}
-use Rattle.ga_explorer.specs.Opening.{ExplorerState}
-use Rattle.ga_explorer.specs.declared.commands.Query.{Query}
 
 -- the command, and the text of its answer
 abbrev pub text_answer_json : Text → Text → JsonValue
 text_answer_json command text = json_object ((codes "command", string command) ∷ (codes "text", text_json text) ∷ [])
-
--- the text is that of the query's answer
-abbrev pub IsTextAnswerOfQuery : Text → ExplorerState → Query → JsonValue → Type 0
-IsTextAnswerOfQuery command e asked answer = (text : Text) × AnswersQuery e asked text × (answer ≡ text_answer_json command text)
 
 -- no command, and the number, the word and the hint of the refusal
 abbrev pub line_refusal_json : ℕ → Text → Text → JsonValue

@@ -8,13 +8,14 @@ ghost use Rattle.ga_explorer.specs.inner.{explorer_state};
 ghost use Rattle.ga_explorer_json.specs.Answers.{AnswersCommandJson, AnswersExplorerJson, IsRequestOfLine, AnswersLineRequest};
 ghost use Rattle.ga_explorer_json.specs.inner.{IsQueryJsonWritten};
 
+use crate::changes_json::write_change_result_json;
 use crate::steps_json::{write_chain_json, write_dump_json, write_trace_json};
 use crate::text_json::{write_long_line_json, write_query_text, write_syntax_json};
 use crate::{
-    write_back_until_json, write_cell_writes_json, write_decisions_json, write_event_counts_json,
-    write_link_words_json, write_memory_json, write_node_json, write_provenance_json,
-    write_races_json, write_rewind_json, write_rollback_effects_json, write_run_json,
-    write_step_json, write_steps_around_json, write_undo_json, write_waiting_nodes_json,
+    write_cell_writes_json, write_decisions_json, write_event_counts_json, write_link_words_json,
+    write_memory_json, write_node_json, write_provenance_json, write_races_json, write_rewind_json,
+    write_rollback_effects_json, write_step_json, write_steps_around_json, write_undo_json,
+    write_waiting_nodes_json,
 };
 use ga_console::{DebuggerCommand, parse_debugger_command};
 use ga_debug_info::DebugInfo;
@@ -22,7 +23,7 @@ use ga_event::NodePart;
 use ga_explorer::{ExplorerCommand, Query, parse_explorer_command, part_of_node_value};
 use ga_image::MAX_IMAGE_LINE_BYTES;
 use ga_lab::Lab;
-use ga_scheduler::{NodeValue, conditions_before_never, run_schedule};
+use ga_scheduler::NodeValue;
 use ga_text::{WriteResult, Writer};
 use std::alloc::Global;
 use std::io::Write;
@@ -125,17 +126,10 @@ fn explore_for_json<W: Write>(
         W.contents writer.old writer.new }
 {
     match asked {
-        ExplorerCommand::Run {
-            schedule,
-            most,
-            until,
-        } => {
-            let watched = conditions_before_never(&until);
-            let ran = run_schedule(lab, schedule, u64::from(most), watched);
-            write_run_json(&ran, writer)
-        }
-        ExplorerCommand::BackUntil { only, until } => {
-            write_back_until_json(lab, conditions_before_never(&until), only, writer)
+        ExplorerCommand::Change(change) => {
+            let named = change;
+            let command = named.name();
+            write_change_result_json(command, change.carry_out(lab), writer)
         }
         ExplorerCommand::AnswerQuery(query) => {
             answer_query_for_json(alloc, lab, notes, query, writer)
@@ -143,7 +137,7 @@ fn explore_for_json<W: Write>(
     }
 }
 
-/// Writes the answer of a query; of one without rows its text.
+/// Writes the answer of a query.
 ///
 /// # Errors
 /// A write failed, or there was no memory for a text.
@@ -192,10 +186,7 @@ fn answer_query_for_json<W: Write>(
         }
         Query::Races { only } => write_races_json(alloc, lab, only, writer),
         Query::WaitingNodes => write_waiting_nodes_json(lab, writer),
-        Query::Chip => write_query_text(alloc, lab, notes, b"chip", asked, writer),
-        Query::Save => write_query_text(alloc, lab, notes, b"save", asked, writer),
-        Query::Help => write_query_text(alloc, lab, notes, b"help", asked, writer),
-        Query::CommandHelp(_) => write_query_text(alloc, lab, notes, b"help", asked, writer),
+        Query::Text(query) => write_query_text(alloc, lab, query, writer),
     }
 }
 

@@ -4,20 +4,20 @@ ghost use Rattle.std.specs.Prelude.{◌≡◌, codes, length};
 ghost use Rattle.ga_event.specs.Told.{count_steps};
 ghost use Rattle.ga_lab.specs.Machine.{undo_answer, rewind_answer, state_after_undo, state_after_rewind};
 ghost use Rattle.ga_text.specs.Output.{WritesSomeText, WritesExactly};
-ghost use Rattle.ga_scheduler.specs.Backward.{find_newest_matching_event, machine_after_back_until, event_count_removed_by_back_until};
 ghost use Rattle.ga_json.specs.Compact.{json_line};
 ghost use Rattle.ga_json.specs.Fields.{row_json};
 ghost use Rattle.ga_explorer_json.specs.Rows.{IsJsonLine};
-ghost use Rattle.ga_explorer_json.specs.Changes.{step_answer_json, IsStepJson, removal_counts_json, undo_json, rewind_json};
+ghost use Rattle.ga_explorer_json.specs.Changes.{step_answer_json, IsStepJson, removal_counts_json, undo_json, rewind_json, change_result_json};
 
 use crate::event::push_made_event;
 use crate::part::optional_number;
 use crate::refusal::{write_lab_refusal, write_step_refusal};
+use crate::run_json::write_run_json;
 use ga_event::MadeEvent;
+use ga_explorer::ChangeResult;
 use ga_grid::NodeId;
 use ga_json::{Field, RowFields, row_fields, write_object};
 use ga_lab::Lab;
-use ga_scheduler::{Condition, undo_until_condition};
 use ga_text::{WriteResult, Writer};
 use std::io::Write;
 
@@ -78,29 +78,25 @@ pub fn write_rewind_json<W: Write>(
     }
 }
 
-/// `back until COND`, `back NNN until COND`: removes the newest event after which a condition held, with those that must go with it,
-/// and writes how many events were removed, if some were.
+/// A change of exploring: writes what it came to.
 ///
 /// # Errors
 /// A write failed.
-pub fn write_back_until_json<W: Write>(
-    lab: &mut Lab,
-    until: &[Condition],
-    only: Option<NodeId>,
+pub(crate) fn write_change_result_json<W: Write>(
+    command: &[u8],
+    came: ChangeResult,
     writer: &mut Writer<'_, W>,
 ) -> WriteResult
-    ensures said { WritesExactly result (json_line (removal_counts_json (codes "back") (event_count_removed_by_back_until only lab.old (find_newest_matching_event until.now only lab.old)) (length lab.new.kept)))
-        W.contents writer.old writer.new }
-    ensures state { lab.new ≡ machine_after_back_until only lab.old (find_newest_matching_event until.now only lab.old) }
+    ensures { WritesExactly result (json_line (change_result_json command.now came)) W.contents writer.old writer.new }
 {
-    match undo_until_condition(lab, until, only) {
-        Some(gone) => write_removed_events(
-            b"back",
-            Some(u64::from(gone)),
-            lab.counts().kept,
-            writer,
-        ),
-        None => write_removed_events(b"back", None, lab.counts().kept, writer),
+    match came {
+        ChangeResult::RunEnded { ran, conditions: _ } => write_run_json(command, &ran, writer),
+        ChangeResult::EventsRemoved { removed, kept } => match removed {
+            Some(removed) => {
+                write_removed_events(command, Some(u64::from(removed)), kept, writer)
+            }
+            None => write_removed_events(command, None, kept, writer),
+        },
     }
 }
 

@@ -31,14 +31,11 @@ mod writes_json;
 
 pub use at_json::write_steps_around_json;
 pub use because_json::write_decisions_json;
-pub use changes_json::{
-    write_back_until_json, write_rewind_json, write_step_json, write_undo_json,
-};
+pub use changes_json::{write_rewind_json, write_step_json, write_undo_json};
 pub use effects_json::write_rollback_effects_json;
 pub use node_json::write_node_json;
 pub use races_json::write_races_json;
 pub use readings_json::{write_event_counts_json, write_memory_json};
-pub use run_json::write_run_json;
 pub use session::explore_json;
 pub use steps_json::{write_chain_json, write_dump_json, write_trace_json};
 pub use whence_json::write_provenance_json;

@@ -21,18 +21,22 @@ use std::io::Write;
 ///
 /// # Errors
 /// A write failed.
-pub fn write_run_json<W: Write>(ran: &RunResult, writer: &mut Writer<'_, W>) -> WriteResult
-    ensures { WritesExactly result (json_line (run_json ran.now.events ran.now.end)) W.contents writer.old writer.new }
+pub(crate) fn write_run_json<W: Write>(
+    command: &[u8],
+    ran: &RunResult,
+    writer: &mut Writer<'_, W>,
+) -> WriteResult
+    ensures { WritesExactly result (json_line (run_json command.now ran.now.events ran.now.end)) W.contents writer.old writer.new }
 {
-    write_object(run_row(ran.events, ran.end).as_slice(), writer)
+    write_object(run_row(command, ran.events, ran.end).as_slice(), writer)
 }
 
 /// How many events a run made, and why no more.
-fn run_row(events: u64, end: RunEnd) -> RowFields<'static>
-    ensures { row_json result.items ≡ run_json events end }
+fn run_row<'a>(command: &'a [u8], events: u64, end: RunEnd) -> RowFields<'a>
+    ensures { row_json result.items ≡ run_json command.now events end }
 {
     let mut row = row_fields(&[
-        Field::text(b"command", b"run"),
+        Field::text(b"command", command),
         Field::number(b"events", events),
     ]);
     push_run_end(&mut row, end);
@@ -40,7 +44,7 @@ fn run_row(events: u64, end: RunEnd) -> RowFields<'static>
 }
 
 /// Adds why a run ended.
-fn push_run_end(row: &mut RowFields<'static>, end: RunEnd)
+fn push_run_end(row: &mut RowFields<'_>, end: RunEnd)
     requires { array_vec_len row.old + 8 ≤ MAX_FIELDS }
     ensures { map named_field_value row.new.items ≡ map named_field_value row.old.items ++ run_end_fields end }
 {

@@ -1,43 +1,38 @@
 //! Answers that are texts, and refused lines that spell no command.
 
 ghost use Rattle.std.specs.Prelude.{◌≡◌, ◌++◌, [], Some};
-ghost use Rattle.ga_text.specs.Output.{WritesSomeText, WritesExactly};
+ghost use Rattle.ga_text.specs.Output.{WritesExactly};
 ghost use Rattle.ga_json.specs.Compact.{json_line};
 ghost use Rattle.ga_json.specs.Fields.{row_json};
-ghost use Rattle.ga_explorer.specs.inner.{explorer_state};
-ghost use Rattle.ga_explorer_json.specs.Rows.{IsJsonLine};
-ghost use Rattle.ga_explorer_json.specs.Texts.{text_answer_json, IsTextAnswerOfQuery, line_refusal_json, long_line_refusal_json, syntax_refusal_of_line, syntax_refusal_json};
+ghost use Rattle.ga_explorer.specs.Commands.{text_query_name, text_query_text};
+ghost use Rattle.ga_explorer_json.specs.Texts.{text_answer_json, line_refusal_json, long_line_refusal_json, syntax_refusal_of_line, syntax_refusal_json};
 
 use crate::bytes::hint_of_refusal;
-use ga_debug_info::DebugInfo;
 use ga_display::RefusalWording;
-use ga_explorer::{Query, command_suggestion, write_query_answer};
+use ga_explorer::{TextQuery, command_suggestion};
 use ga_json::{Field, text_field, write_object};
 use ga_lab::Lab;
 use ga_text::{WriteResult, Writer};
 use std::alloc::Global;
 use std::io::Write;
 
-/// Writes the text of a query's answer, after the name of the command. Takes memory for a long text.
+/// Writes the text of a query, after its name. Takes memory for a long text.
 ///
 /// # Errors
 /// A write failed, or there was no memory for the text.
 pub(crate) fn write_query_text<W: Write>(
     alloc: Global,
-    lab: &mut Lab,
-    notes: &Option<DebugInfo>,
-    command: &[u8],
-    asked: Query,
+    lab: &Lab,
+    query: TextQuery,
     writer: &mut Writer<'_, W>,
 ) -> WriteResult
-    ensures said { WritesSomeText result (IsJsonLine (IsTextAnswerOfQuery command.now (explorer_state lab.old notes.now) asked)) W.contents writer.old writer.new }
-    ensures same { lab.new ≡ lab.old }
+    ensures { WritesExactly result (json_line (text_answer_json (text_query_name query) (text_query_text lab.now query))) W.contents writer.old writer.new }
 {
     let mut long = Vec::new(alloc);
     let mut held = Writer::new(&mut long);
-    write_query_answer(alloc, lab, notes, asked, &mut held)?;
+    query.write_text(lab, &mut held)?;
     held.flush()?;
-    write_text_answer(command, held.stream.as_slice(), writer)
+    write_text_answer(query.name(), held.stream.as_slice(), writer)
 }
 
 /// Writes an answer that is a text, after the name of the command.

@@ -24,7 +24,7 @@ mod words_text;
 mod writes_text;
 
 pub use at_text::write_steps_around;
-pub use back_text::answer_back_until_command;
+pub use back_text::write_back_until_result;
 pub use chip_text::chip_overview;
 pub use decisions_before_step_text::write_decisions_answer;
 pub use ended::{find_ended_marked_nodes, find_live_nodes};

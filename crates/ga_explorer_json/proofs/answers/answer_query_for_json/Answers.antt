@@ -1,14 +1,10 @@
-use Rattle.std.proofs.Common.{refl, subst, codes}
-use Rattle.ga_text.specs.Output.{WritesSomeText}
-use Rattle.ga_explorer.specs.inner.{explorer_state}
-use Rattle.ga_explorer.specs.declared.commands.Query.{Query}
+use Rattle.ga_explorer.specs.Commands.{text_query_name, text_query_text}
 use Rattle.ga_explorer.specs.declared.commands.Query.TheVariants as query
 use Rattle.ga_explorer_json.specs.Words.{link_words_answer_json}
 use Rattle.ga_explorer_json.specs.Writes.{cell_writes_answer_json}
 use Rattle.ga_explorer_json.specs.Around.{steps_around_answer_json}
 use Rattle.ga_explorer_json.specs.Because.{decisions_answer_json}
-use Rattle.ga_explorer_json.specs.Rows.{IsJsonLine}
-use Rattle.ga_explorer_json.specs.Texts.{IsTextAnswerOfQuery}
+use Rattle.ga_explorer_json.specs.Texts.{text_answer_json}
 use Rattle.ga_explorer_json.proofs.Answering.{line_is}
 use Rattle.ga_explorer_json.proofs.answers.answer_query_for_json.Goals as goal
 
@@ -54,38 +50,10 @@ returns-in-Because-clause-said g c = record {
   said = rw (← c.resolve-step-in-Because.ensures) (line_is g.W.Write.contents c.write_decisions_json.result c.args.writer.now c.write_decisions_json.new.writer (decisions_answer_json c.args.notes.now c.args.lab.now c.in-Because.node c.resolve-step-in-Because.result c.in-Because.most) c.write_decisions_json.ensures);
 }
 
-pub returns-in-Chip-clause-said : goal.returns-in-Chip-clause-said
-returns-in-Chip-clause-said g c =
-    let e = explorer_state c.args.lab.now c.args.notes.now in record {
-      meant = query.Chip;
-      is = c.in-Chip.is;
-      said = subst (λ (q : Query). WritesSomeText c.write_query_text.result (IsJsonLine (IsTextAnswerOfQuery (codes "chip") e q)) g.W.Write.contents c.args.writer.now c.write_query_text.new.writer)
-          c.in-Chip.is c.write_query_text.ensures.said;
-    }
-
-pub returns-in-Save-clause-said : goal.returns-in-Save-clause-said
-returns-in-Save-clause-said g c =
-    let e = explorer_state c.args.lab.now c.args.notes.now in record {
-      meant = query.Save;
-      is = c.in-Save.is;
-      said = subst (λ (q : Query). WritesSomeText c.write_query_text-in-Save.result (IsJsonLine (IsTextAnswerOfQuery (codes "save") e q)) g.W.Write.contents c.args.writer.now c.write_query_text-in-Save.new.writer)
-          c.in-Save.is c.write_query_text-in-Save.ensures.said;
-    }
-
-pub returns-in-Help-clause-said : goal.returns-in-Help-clause-said
-returns-in-Help-clause-said g c =
-    let e = explorer_state c.args.lab.now c.args.notes.now in record {
-      meant = query.Help;
-      is = c.in-Help.is;
-      said = subst (λ (q : Query). WritesSomeText c.write_query_text-in-Help.result (IsJsonLine (IsTextAnswerOfQuery (codes "help") e q)) g.W.Write.contents c.args.writer.now c.write_query_text-in-Help.new.writer)
-          c.in-Help.is c.write_query_text-in-Help.ensures.said;
-    }
-
-pub returns-in-CommandHelp-clause-said : goal.returns-in-CommandHelp-clause-said
-returns-in-CommandHelp-clause-said g c =
-    let e = explorer_state c.args.lab.now c.args.notes.now in record {
-      meant = (query.CommandHelp c.in-CommandHelp.field-0);
-      is = c.in-CommandHelp.is;
-      said = subst (λ (q : Query). WritesSomeText c.write_query_text-in-CommandHelp.result (IsJsonLine (IsTextAnswerOfQuery (codes "help") e q)) g.W.Write.contents c.args.writer.now c.write_query_text-in-CommandHelp.new.writer)
-          c.in-CommandHelp.is c.write_query_text-in-CommandHelp.ensures.said;
+pub returns-in-Text-clause-said : goal.returns-in-Text-clause-said
+returns-in-Text-clause-said g c =
+    let asked = c.in-Text.query in record {
+      meant = query.Text asked;
+      is = c.in-Text.is;
+      said = line_is g.W.Write.contents c.write_query_text.result c.args.writer.now c.write_query_text.new.writer (text_answer_json (text_query_name asked) (text_query_text c.args.lab.now asked)) c.write_query_text.ensures;
     }
