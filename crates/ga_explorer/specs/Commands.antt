@@ -29,8 +29,8 @@ use Rattle.ga_explorer.specs.declared.commands.ExplorerCommand.{ExplorerCommand}
 use Rattle.ga_explorer.specs.declared.commands.ExplorerCommand.TheVariants as asked
 use Rattle.ga_explorer.specs.declared.commands.Query.{Query}
 use Rattle.ga_explorer.specs.declared.commands.Query.TheVariants as told
-use Rattle.ga_explorer.specs.declared.text_query.TextQuery.{TextQuery}
-use Rattle.ga_explorer.specs.declared.text_query.TextQuery.TheVariants as plain
+use Rattle.ga_explorer.specs.declared.commands.TextQuery.{TextQuery}
+use Rattle.ga_explorer.specs.declared.commands.TextQuery.TheVariants as plain
 
 -- ---- what `help` says of them
 

@@ -2,8 +2,9 @@
 
 ghost use Rattle.std.specs.Prelude.{◌≡◌, option_and_then, IfSome};
 ghost use Rattle.ga_event.specs.Flow.{IsNodePartInRange};
+ghost use Rattle.ga_text.specs.Output.{WritesSomeText};
 ghost use Rattle.ga_explorer.specs.Reading.{part_of_node_value};
-ghost use Rattle.ga_explorer.specs.Commands.{explorer_command_of_line, single_word_command, query_without_arguments, command_with_arguments, query_with_arguments};
+ghost use Rattle.ga_explorer.specs.Commands.{explorer_command_of_line, single_word_command, query_without_arguments, command_with_arguments, query_with_arguments, text_query_name, text_query_text};
 ghost use Rattle.ga_explorer.specs.inner.{explorer_state, IsQueryAnswerWritten};
 
 use crate::arguments::{
@@ -12,17 +13,17 @@ use crate::arguments::{
 };
 use crate::back_request::parse_back;
 use crate::changes::Change;
-use crate::forms::place_of;
+use crate::forms::{place_of, say_command, say_help};
 use crate::named_value::part_of_node_value;
 use crate::run_request::{MOST_EVENTS, parse_run};
-use crate::text_query::TextQuery;
 use ga_conditions::never_holding_conditions;
 use ga_console::StepSelector;
 use ga_debug_info::DebugInfo;
 use ga_event::NodePart;
 use ga_explorer_text::{
-    write_cell_writes, write_decisions_answer, write_link_words, write_provenance_answer,
-    write_races, write_rollback_effects, write_steps_around, write_waiting_nodes,
+    chip_overview, write_cell_writes, write_decisions_answer, write_link_words,
+    write_provenance_answer, write_races, write_rollback_effects, write_saved_session,
+    write_steps_around, write_waiting_nodes,
 };
 use ga_grid::NodeId;
 use ga_lab::Lab;
@@ -86,6 +87,19 @@ pub enum Query {
     WaitingNodes,
     /// One that only a text answers.
     Text(TextQuery),
+}
+
+/// A query that only a text answers.
+#[derive(Clone, Copy, PartialEq, Eq)]
+pub enum TextQuery {
+    /// `chip`: what each node does.
+    Chip,
+    /// `save`: debugger commands that make the history again.
+    Save,
+    /// `help`: the commands.
+    Help,
+    /// `help` of one command, by its place among them.
+    CommandHelp(usize),
 }
 
 /// The command of exploring that a line spells, or none.
@@ -236,5 +250,34 @@ fn part_of(value: Option<NodeValue>) -> Option<NodePart>
     match value {
         Some(value) => part_of_node_value(value),
         None => None,
+    }
+}
+
+impl TextQuery {
+    /// The word with which a line spells it.
+    pub fn name(self) -> &'static [u8]
+        ensures { result.now ≡ text_query_name self }
+    {
+        match self {
+            TextQuery::Chip => b"chip",
+            TextQuery::Save => b"save",
+            TextQuery::Help => b"help",
+            TextQuery::CommandHelp(_) => b"help",
+        }
+    }
+
+    /// Writes its text.
+    ///
+    /// # Errors
+    /// A write failed.
+    pub fn write_text<W: Write>(self, lab: &Lab, writer: &mut Writer<'_, W>) -> WriteResult
+        ensures { WritesSomeText result (λ text. text ≡ text_query_text lab.now self) W.contents writer.old writer.new }
+    {
+        match self {
+            TextQuery::Chip => writer.write_blocks(chip_overview(lab).as_slice()),
+            TextQuery::Save => write_saved_session(lab, writer),
+            TextQuery::Help => say_help(writer),
+            TextQuery::CommandHelp(place) => say_command(place, writer),
+        }
     }
 }

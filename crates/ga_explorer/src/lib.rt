@@ -17,15 +17,13 @@ mod prompting;
 mod run_request;
 mod session;
 mod strict;
-mod text_query;
 
 pub use beginning::open_lab;
 pub use changes::{Change, ChangeResult};
-pub use commands::{ExplorerCommand, Query, parse_explorer_command};
+pub use commands::{ExplorerCommand, Query, TextQuery, parse_explorer_command};
 pub use explorer::{Explorer, answer_explorer_line};
 pub use forms::{CommandClass, QueryUsage, command_class_of_line, command_suggestion};
 pub use named_value::part_of_node_value;
 pub use preload::{complete_end_line, is_image_lacking_end_line};
 pub use session::serve_explorer_session;
 pub use strict::{is_refusal_answer, report_session_end_status};
-pub use text_query::TextQuery;

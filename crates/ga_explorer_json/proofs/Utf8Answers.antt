@@ -34,8 +34,8 @@ use Rattle.ga_explorer.specs.Opening.{ExplorerState}
 use Rattle.ga_console.specs.Selectors.{selected_step_number}
 use Rattle.ga_explorer.specs.Reading.{part_of_node_value}
 use Rattle.ga_explorer.specs.Changes.{change_name}
-use Rattle.ga_explorer.specs.declared.text_query.TextQuery.{TextQuery}
-use Rattle.ga_explorer.specs.declared.text_query.TextQuery.TheVariants as plain_query
+use Rattle.ga_explorer.specs.declared.commands.TextQuery.{TextQuery}
+use Rattle.ga_explorer.specs.declared.commands.TextQuery.TheVariants as plain_query
 use Rattle.ga_explorer.specs.declared.changes.Change.{Change}
 use Rattle.ga_explorer.specs.declared.changes.Change.TheVariants.{Run, BackUntil}
 use Rattle.ga_explorer.specs.declared.changes.ChangeResult.{ChangeResult}

@@ -1,6 +1,6 @@
 use Rattle.std.proofs.Common.{rules, ◌∙◌, sym, ap}
 use Rattle.ga_explorer.specs.Commands.{text_query_text}
-use Rattle.ga_explorer.proofs.text_query.TextQuery.write_text.Goals as goal
+use Rattle.ga_explorer.proofs.commands.TextQuery.write_text.Goals as goal
 
 pub returns-in-Help : goal.returns-in-Help
 returns-in-Help g c = (
