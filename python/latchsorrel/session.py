@@ -81,8 +81,6 @@ class Session:
         commands = lines[lines.index(b"end") + 1 :] if b"end" in lines else []
         if commands and not commands[-1]:
             commands.pop()
-        elif commands:
-            self._send(b"")
         for line in commands[: commands.index(b"quit")] if b"quit" in commands else commands:
             self._answer(line.decode(errors="replace"))
 

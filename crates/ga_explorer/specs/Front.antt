@@ -22,12 +22,15 @@ ends_with_bare_end_line text = pointwise nat_eq text (codes "end") || ends_with 
 abbrev pub is_image_lacking_end_line : Text → Bool
 is_image_lacking_end_line text = begins_as_image text && (not (contains_end_line text) && not (ends_with_bare_end_line text))
 
--- what a text needs so that commands can follow it: nothing, the line feed of its last line, or the line `end`
+-- the last line, if there is one, has its line feed
+abbrev pub has_whole_lines : Text → Bool
+has_whole_lines text = (length text == 0) || ends_with nat_eq text (codes "\n")
+
+-- what a text needs so that commands can follow it: a line `end`, if it has none, and the line feed of its last line
 abbrev pub end_line_completion : Text → Text
 end_line_completion text =
-    if contains_end_line text then []
-    else if ends_with_bare_end_line text then codes "\n"
-    else if (length text == 0) || ends_with nat_eq text (codes "\n") then codes "end\n"
+    if contains_end_line text || ends_with_bare_end_line text then (if has_whole_lines text then [] else codes "\n")
+    else if has_whole_lines text then codes "end\n"
     else codes "\nend\n"
 
 -- the text with what it needs so that commands can follow it

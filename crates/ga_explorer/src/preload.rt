@@ -1,7 +1,7 @@
 //! An image or source in a file that is read before standard input.
 
 ghost use Rattle.std.specs.Prelude.{◌≡◌, OnOk};
-ghost use Rattle.ga_explorer.specs.Front.{contains_end_line, has_end_line, ends_with_bare_end_line, is_image_lacking_end_line, end_line_completion, text_with_end_line};
+ghost use Rattle.ga_explorer.specs.Front.{contains_end_line, has_end_line, ends_with_bare_end_line, is_image_lacking_end_line, has_whole_lines, end_line_completion, text_with_end_line};
 
 use crate::opening::is_image;
 use std::alloc::AllocError;
@@ -13,8 +13,8 @@ pub fn is_image_lacking_end_line(text: &[u8]) -> bool
     is_image(text) && !contains_end_line(text) && !ends_with_bare_end_line(text)
 }
 
-/// Ends an image or source so that commands can follow it: adds the line feed of its line `end`, or that line to source that
-/// has none. A text that has its line `end` is unchanged.
+/// Ends an image or source so that commands can follow it: adds the line `end` to source that has none, and the line feed of the last
+/// line. A text of whole lines, one of which is `end`, is unchanged.
 ///
 /// # Errors
 /// Allocation failed. The text is unchanged.
@@ -28,15 +28,21 @@ pub fn complete_end_line(text: &mut Vec<u8>) -> Result<(), AllocError>
 fn end_line_completion(text: &[u8]) -> &'static [u8]
     ensures { result.now ≡ end_line_completion text.now }
 {
-    if contains_end_line(text) {
-        b""
-    } else if ends_with_bare_end_line(text) {
-        b"\n"
-    } else if text.is_empty() || text.ends_with(b"\n".as_slice()) {
+    let is_whole = has_whole_lines(text);
+    if contains_end_line(text) || ends_with_bare_end_line(text) {
+        if is_whole { b"" } else { b"\n" }
+    } else if is_whole {
         b"end\n"
     } else {
         b"\nend\n"
     }
+}
+
+/// Whether the last line of a text, if it has one, has its line feed.
+fn has_whole_lines(text: &[u8]) -> bool
+    ensures { result ≡ has_whole_lines text.now }
+{
+    text.is_empty() || text.ends_with(b"\n".as_slice())
 }
 
 /// Whether a text ends in a line `end` that has no line feed.
