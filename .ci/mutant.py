@@ -4,6 +4,7 @@ function next to it, and removes the bodies of the other functions.
 import os
 import re
 import shutil
+from contextlib import contextmanager
 from functools import cache
 
 FUNCTION = re.compile(r"^( *)(?:pub(?:\([a-z]+\))? )?(?:const )?(?:unsafe )?(?:extern \"C\" )?fn (\w+)", re.M)
@@ -72,6 +73,13 @@ def functions_of(folder, path, text):
     return [Function(folder, path, text, it) for it in FUNCTION.finditer(text)]
 
 
+@cache
+def all_functions(folder):
+    """The functions of a crate."""
+    files = [os.path.relpath(f"{at}/{it}", folder) for at, _, files in os.walk(f"{folder}/src") for it in sorted(files) if it.endswith(".rt")]
+    return [function for path in files for function in functions_of(folder, path, read(f"{folder}/{path}"))]
+
+
 def edit_texts(file):
     """The mutants of a file: the name after each `# `, and the lines that follow it."""
     parts = re.split(r"^# (\w+)\n", read(file), flags=re.M)
@@ -125,6 +133,32 @@ class Edit:
             raise Fault(f"{self.name}: its text occurs {text.count(old or '', start, end)} times in {path} instead of once")
         place = text.index(old, start, end)
         self.texts[path] = (before, text[:place] + new + text[place + len(old) :])
+
+
+class DefinitionEdit:
+    """A mutant of a file of `specs`: the changed text, and the function whose proof must be rejected."""
+
+    def __init__(self, folder, name, text):
+        self.name = name
+        lines = dict(re.findall(r"^(file|by|old|new): ?(.*)$", text, re.M))
+        self.path, old = lines.get("file", ""), lines.get("old", "")
+        self.before = read(f"{folder}/{self.path}")
+        if not self.path.startswith("specs/") or not old or self.before.count(old) != 1:
+            raise Fault(f"{name}: its text occurs {self.before.count(old)} times in {self.path} instead of once")
+        self.after = self.before.replace(old, lines.get("new", ""))
+        if self.after == self.before:
+            raise Fault(f"{name}: it changes nothing")
+        found = [it for it in all_functions(folder) if lines["by"] in (it.name, it.short())]
+        if len(found) != 1:
+            raise Fault(f"{name}: the crate has {len(found)} functions {lines['by']} instead of one")
+        self.function = found[0]
+
+    @contextmanager
+    def written(self, folder):
+        """Writes the edit into a copy of the crate, and afterwards takes it back."""
+        write(f"{folder}/{self.path}", self.after)
+        yield
+        write(f"{folder}/{self.path}", self.before)
 
 
 class Copy:
