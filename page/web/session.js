@@ -102,6 +102,13 @@ class Session {
     return { answer, line, is_cut: ended };
   }
 
+  // How each expectation of the source stands, by its line: held, broken or pending, and the text of it.
+  expectations() {
+    const [told] = this.is_source && /^[ \t]*expect[ \t]/m.test(this.load) && this.ask(["expectations"]) || [{}];
+    const found = (told.text || "").split("\n").map(it => /^line (\d+): (.*: (held|broken|pending)\b.*)$/.exec(it)).filter(it => it);
+    return Object.fromEntries(found.map(([, line, text, state]) => [line, { text, state }]));
+  }
+
   // A rollback. `effects` names what it removes. `more` has the answers to the queries after it, if there is memory for them.
   rewind(line, questions = []) {
     const all = this.ask([line.replace("rewind", "effects"), line, ...questions]);

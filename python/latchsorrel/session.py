@@ -193,6 +193,11 @@ class Session:
         """The nodes that wait, and for which neighbours."""
         return self._spelled("who")
 
+    def expectations(self) -> list[str]:
+        """How each expectation of the source stands, a line each, as "line 3: 001 t = 6: broken, is 000009"."""
+        text = self._spelled("expectations")["text"]
+        return [] if text == "none\n" else text.splitlines()
+
     def chip(self) -> str:
         """The whole chip, as text."""
         return self._spelled("chip")["text"]

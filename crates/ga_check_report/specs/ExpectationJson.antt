@@ -9,13 +9,13 @@ use Rattle.ga_json.specs.Compact.{json_line}
 use Rattle.ga_state_ends.specs.Decisions.{EndDecision}
 use Rattle.ga_state_ends.specs.Ends.{EndSearchResult}
 use Rattle.ga_state_expectations.specs.declared.source.LineExpectation.{LineExpectation}
-use Rattle.ga_check_report.specs.declared.outcome.NodeObservation.{NodeObservation}
-use Rattle.ga_check_report.specs.declared.outcome.NodeObservation.TheVariants.{Is, Runs, AwaitsCode, Reads, Writes, Stopped}
+use Rattle.ga_state_expectations.specs.declared.observation.NodeObservation.{NodeObservation}
+use Rattle.ga_state_expectations.specs.declared.observation.NodeObservation.TheVariants.{Is, Runs, AwaitsCode, Reads, Writes, Stopped}
 use Rattle.ga_check_report.specs.declared.outcome.Breach.{Breach}
 use Rattle.ga_check_report.specs.declared.outcome.Breach.TheVariants.{Unmet, Reached, OverLink, Endless, SeveralEnds}
 use Rattle.ga_check_report.specs.declared.outcome.ExpectationOutcome.{ExpectationOutcome}
 use Rattle.ga_check_report.specs.declared.outcome.ExpectationOutcome.TheVariants.{Holds, Broken, Unknown}
-use Rattle.ga_check_report.specs.ExpectationTexts.{side_names_after_blanks}
+use Rattle.ga_explorer_text.specs.Observed.{side_names_after_blanks}
 use Rattle.ga_check_report.specs.JsonValues.{optional_text_json, search_result_fields}
 use Rattle.ga_check_report.specs.EventJson.{event_detail_fields}
 use Rattle.ga_check_report.specs.LinkFaults.{link_fault_keyword, link_fault_detail_fields}

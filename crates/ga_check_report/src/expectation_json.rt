@@ -11,11 +11,12 @@ ghost use Rattle.ga_check_report.specs.ExpectationJson.{outcome_keyword, breach_
 
 use crate::json_fields::{MAX_DETAILS, event_fields};
 use crate::link_fault::{link_fault_fields, link_fault_keyword};
-use crate::outcome::{Breach, ExpectationOutcome, NodeObservation};
-use crate::outcome_text::{push_sides, sides_of};
+use crate::outcome::{Breach, ExpectationOutcome};
 use arrayvec::ArrayVec;
+use ga_explorer_text::{push_sides, sides_of};
 use ga_json::{Field, RowFields, optional_number_field, row_fields, text_field, write_object};
 use ga_ports::PortSet;
+use ga_state_expectations::NodeObservation;
 use ga_text::{TextBuffer, WriteResult, Writer, push_text};
 use std::io::Write;
 

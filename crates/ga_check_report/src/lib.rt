@@ -21,8 +21,6 @@ mod never;
 mod never_json;
 mod never_text;
 mod node_rows;
-mod node_value;
-mod observation;
 mod opening;
 mod outcome;
 mod outcome_text;

@@ -15,6 +15,6 @@ pub answered : (old new : ExplorerState) (asked meant : ExplorerCommand) (text :
 answered old new asked meant text e h = subst (λ z. AnswersExplorerCommand old z text new) (sym e) h
 
 -- the text of what a change came to
-pub changed : (old : ExplorerState) (asked : ExplorerCommand) (change : Change) (came : ChangeResult) (new : MachineState) → asked ≡ command.Change change → IsChangeResult old.lab change came new
+pub changed : (old : ExplorerState) (asked : ExplorerCommand) (change : Change) (came : ChangeResult) (new : MachineState) → asked ≡ command.Change change → IsChangeResult old change came new
     → AnswersExplorerCommand old asked (change_result_text came) (explorer_state new old.notes)
 changed old asked change came new e h = answered old (explorer_state new old.notes) asked (command.Change change) (change_result_text came) e (came, h, refl, refl)

@@ -12,7 +12,7 @@ static ROWS: &[Row] = &[
         name: b"run",
         class: CommandClass::Change,
         form: b"run [greedy|random SEED] [N] [until COND]",
-        does: b"\n                      make up to N events, in rounds or in this order\nCOND: NNN VALUE OP N, pass NNN MMM OP N, pass NNN MMM J, step NNN K, stop, stop NNN,\n      wait NNN, mem NNN HH = N, p NNN X, reach NNN X, change NNN HH [= N], COND or COND\nVALUE: t s r p a b i, d2 to d9, r1 to r8, io, slot, carry, step, [HH]\nOP: = != < <= > >=   N: a number, a port, a label   X: an address, a label, line N\n",
+        does: b"\n                      make up to N events, in rounds or in this order\nCOND: NNN VALUE OP N, pass NNN MMM OP N, pass NNN MMM J, step NNN K, stop, stop NNN,\n      wait NNN, mem NNN HH = N, p NNN X, reach NNN X, change NNN HH [= N], broken, COND or COND\nVALUE: t s r p a b i, d2 to d9, r1 to r8, io, slot, carry, step, [HH]\nOP: = != < <= > >=   N: a number, a port, a label   X: an address, a label, line N\n",
         more: b"answers: reached M EVENT, made M, quiet M or full M: how many events, and why no more\nexample: run 1000 until stop or 001 t = 0x150\n",
         usage: "",
     },
@@ -87,6 +87,14 @@ static ROWS: &[Row] = &[
         does: b"           steps that yield another word in another order, and how\n",
         more: b"answers: races N, and for each of N steps the other word, and two commands that lead there\nexample: races 001\n",
         usage: "  races [NNN]            show the steps that yield another word in another order, and the commands that lead there\n",
+    },
+    Row {
+        name: b"expectations",
+        class: CommandClass::Query,
+        form: b"expectations",
+        does: b"          how each line expect of the source stands\n",
+        more: b"answers: for each whether it is held, broken and by what, or pending: it depends on what comes or on other orders\nexample: expectations\n",
+        usage: "  expectations           show how each line expect of the source stands: held, broken or pending\n",
     },
     Row {
         name: b"save",

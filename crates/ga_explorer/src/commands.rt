@@ -21,7 +21,7 @@ use ga_console::StepSelector;
 use ga_debug_info::DebugInfo;
 use ga_event::NodePart;
 use ga_explorer_text::{
-    chip_overview, write_cell_writes, write_decisions_answer, write_link_words,
+    chip_overview, write_cell_writes, write_decisions_answer, write_expectations, write_link_words,
     write_provenance_answer, write_races, write_rollback_effects, write_saved_session,
     write_steps_around, write_waiting_nodes,
 };
@@ -83,6 +83,8 @@ pub enum Query {
     Races {
         only: Option<NodeId>,
     },
+    /// `expectations`: writes how each expectation of the source stands.
+    Expectations,
     /// `who`: writes who waits for whom, and which nodes are deadlocked.
     WaitingNodes,
     /// One that only a text answers.
@@ -132,6 +134,9 @@ fn single_word_command(name: &[u8]) -> Option<ExplorerCommand>
 fn query_without_arguments(name: &[u8]) -> Option<Query>
     ensures { result ≡ query_without_arguments name.now }
 {
+    if name == b"expectations".as_slice() {
+        return Some(Query::Expectations);
+    }
     match name {
         b"who" => Some(Query::WaitingNodes),
         b"races" => Some(Query::Races { only: None }),
@@ -237,6 +242,7 @@ pub(crate) fn answer_query<W: Write>(
             write_decisions_answer(lab, notes, node, step, most, writer)
         }
         Query::Races { only } => write_races(alloc, lab, only, writer),
+        Query::Expectations => write_expectations(alloc, lab, notes, writer),
         Query::WaitingNodes => write_waiting_nodes(lab, writer),
         Query::Text(query) => query.write_text(lab, writer),
     }

@@ -156,7 +156,10 @@ fn explored<W: Write>(
         W.contents writer.old writer.new }
 {
     match asked {
-        ExplorerCommand::Change(change) => write_change_result(change.carry_out(lab), writer),
+        ExplorerCommand::Change(change) => write_change_result(
+            change.carry_out(alloc, lab, notes),
+            writer,
+        ),
         ExplorerCommand::AnswerQuery(question) => answer_query(alloc, lab, notes, question, writer),
     }
 }

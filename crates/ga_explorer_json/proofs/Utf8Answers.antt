@@ -39,7 +39,11 @@ use Rattle.ga_explorer.specs.declared.commands.TextQuery.TheVariants as plain_qu
 use Rattle.ga_explorer.specs.declared.changes.Change.{Change}
 use Rattle.ga_explorer.specs.declared.changes.Change.TheVariants.{Run, BackUntil}
 use Rattle.ga_explorer.specs.declared.changes.ChangeResult.{ChangeResult}
-use Rattle.ga_explorer.specs.declared.changes.ChangeResult.TheVariants.{RunEnded, EventsRemoved}
+use Rattle.ga_explorer.specs.declared.changes.ChangeResult.TheVariants.{RunEnded, EventsRemoved, Refused as ChangeRefused}
+use Rattle.ga_explorer.specs.declared.expecting.ExpectingRefusal.{ExpectingRefusal}
+use Rattle.ga_explorer.specs.declared.expecting.ExpectingRefusal.TheVariants.{NothingExpected, Memory as NoMemoryForExpectations}
+use Rattle.ga_explorer.specs.Expecting.{expecting_refusal_text}
+use Rattle.ga_debug_info.specs.declared.notes.DebugInfo.{DebugInfo}
 use Rattle.ga_explorer.specs.declared.commands.ExplorerCommand.{ExplorerCommand}
 use Rattle.ga_explorer.specs.declared.commands.ExplorerCommand.TheVariants as asked
 use Rattle.ga_explorer.specs.declared.commands.Query.{Query}
@@ -48,7 +52,8 @@ use Rattle.ga_json.specs.Values.{JsonValue, number, string}
 use Rattle.ga_json.specs.Fields.{NamedValue}
 use Rattle.ga_json.specs.Compact.{IsWritableValue, AreWritableItems}
 use Rattle.ga_explorer_json.specs.Answers.{AnswersCommandJson, AnswersQueryJson, AnswersExplorerJson, IsRequestOfLine, AnswersLineRequest, AnswersJsonLine}
-use Rattle.ga_explorer_json.specs.Changes.{step_answer_json, IsStepJson, removal_counts_json, undo_json, rewind_json, held_condition_fields, run_end_fields, run_json, change_result_json}
+use Rattle.ga_explorer_json.specs.Expected.{IsExpectationsJson}
+use Rattle.ga_explorer_json.specs.Changes.{expecting_refusal_json, step_answer_json, IsStepJson, removal_counts_json, undo_json, rewind_json, held_condition_fields, run_end_fields, run_json, change_result_json}
 use Rattle.ga_explorer_json.specs.Events.{made_event_fields}
 use Rattle.ga_explorer_json.specs.JsonLines.{IsValidJsonLine, IsJsonLineUnlessQuit}
 use Rattle.ga_explorer_json.specs.NodeState.{node_status_fields, node_register_fields, node_fields, stack_part_at_index, stack_rows, node_json}
@@ -115,9 +120,17 @@ unfolding is_low
 change_name_utf8 (Run schedule most until) = plain (codes "run") refl
 change_name_utf8 (BackUntil only until) = plain (codes "back") refl
 
+expecting_refusal_utf8 : (command : Text) (why : ExpectingRefusal) → IsUtf8 command → IsWritableValue (expecting_refusal_json command why)
+unfolding is_low have_low_names
+expecting_refusal_utf8 command NothingExpected h =
+    let line : Text = expecting_refusal_text NothingExpected in
+    object_by (members_of (expecting_refusal_json command NothingExpected)) refl (h, (tt, (plain (codes "noexpect") refl, (hint_utf8 line (low line refl), tt))))
+expecting_refusal_utf8 command NoMemoryForExpectations h = lab_refusal command NoMemory h
+
 change_result_utf8 : (command : Text) (came : ChangeResult) → IsUtf8 command → IsWritableValue (change_result_json command came)
 change_result_utf8 command (RunEnded ran conditions) h = run_utf8 command ran.events ran.end h
 change_result_utf8 command (EventsRemoved removed kept) h = removed_utf8 command removed kept h
+change_result_utf8 command (ChangeRefused why) h = expecting_refusal_utf8 command why h
 
 -- ---- readings
 
@@ -269,6 +282,11 @@ text_query_name_utf8 plain_query.Save = plain (codes "save") refl
 text_query_name_utf8 plain_query.Help = plain (codes "help") refl
 text_query_name_utf8 (plain_query.CommandHelp place) = plain (codes "help") refl
 
+expectations_utf8 : (notes : Option DebugInfo) (s : MachineState) (answer : JsonValue) → IsExpectationsJson notes s answer → IsWritableValue answer
+unfolding is_low
+expectations_utf8 notes s answer (inl h) = as_value answer _ h.2 (text_utf8 (codes "expectations") h.0 (plain (codes "expectations") refl))
+expectations_utf8 notes s answer (inr e) = as_value answer _ e (lab_refusal (codes "expectations") NoMemory (plain (codes "expectations") refl))
+
 query_utf8 : (e : ExplorerState) (asked : Query) (answer : JsonValue) → AnswersQueryJson e asked answer → IsWritableValue answer
 unfolding is_low
 query_utf8 e (query.Effects node which) answer h = effects_utf8 e.notes e.lab node (selected_step_number e.lab node which) answer h
@@ -279,6 +297,7 @@ query_utf8 e (query.Whence node which queried first) answer h =
     whence_utf8 e.notes e.lab node (selected_step_number e.lab node which) (option_and_then part_of_node_value queried) first answer h
 query_utf8 e (query.Because node which most) answer h = as_value answer _ h (because_utf8 e.notes e.lab node (selected_step_number e.lab node which) most)
 query_utf8 e (query.Races only) answer h = races_utf8 e.lab only answer h
+query_utf8 e query.Expectations answer h = expectations_utf8 e.notes e.lab answer h
 query_utf8 e query.WaitingNodes answer h = who_utf8 e.lab answer h
 query_utf8 e (query.Text asked) answer h = as_value answer _ h (text_utf8 (text_query_name asked) (text_query_text e.lab asked) (text_query_name_utf8 asked))
 

@@ -12,10 +12,10 @@ use crate::changes_json::write_change_result_json;
 use crate::steps_json::{write_chain_json, write_dump_json, write_trace_json};
 use crate::text_json::{write_long_line_json, write_query_text, write_syntax_json};
 use crate::{
-    write_cell_writes_json, write_decisions_json, write_event_counts_json, write_link_words_json,
-    write_memory_json, write_node_json, write_provenance_json, write_races_json, write_rewind_json,
-    write_rollback_effects_json, write_step_json, write_steps_around_json, write_undo_json,
-    write_waiting_nodes_json,
+    write_cell_writes_json, write_decisions_json, write_event_counts_json, write_expectations_json,
+    write_link_words_json, write_memory_json, write_node_json, write_provenance_json,
+    write_races_json, write_rewind_json, write_rollback_effects_json, write_step_json,
+    write_steps_around_json, write_undo_json, write_waiting_nodes_json,
 };
 use ga_console::{DebuggerCommand, parse_debugger_command};
 use ga_debug_info::DebugInfo;
@@ -129,7 +129,7 @@ fn explore_for_json<W: Write>(
         ExplorerCommand::Change(change) => {
             let named = change;
             let command = named.name();
-            write_change_result_json(command, change.carry_out(lab), writer)
+            write_change_result_json(command, change.carry_out(alloc, lab, notes), writer)
         }
         ExplorerCommand::AnswerQuery(query) => {
             answer_query_for_json(alloc, lab, notes, query, writer)
@@ -185,6 +185,7 @@ fn answer_query_for_json<W: Write>(
             write_decisions_json(lab, notes, node, step, most, writer)
         }
         Query::Races { only } => write_races_json(alloc, lab, only, writer),
+        Query::Expectations => write_expectations_json(alloc, lab, notes, writer),
         Query::WaitingNodes => write_waiting_nodes_json(lab, writer),
         Query::Text(query) => write_query_text(alloc, lab, query, writer),
     }

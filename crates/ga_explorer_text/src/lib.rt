@@ -7,7 +7,10 @@ mod chip_text;
 mod decisions_before_step_text;
 mod deed_text;
 mod ended;
+mod expectations_text;
 mod line_number;
+mod link_fault_text;
+mod observation_text;
 mod part_text;
 mod passed_text;
 mod races_text;
@@ -28,7 +31,12 @@ pub use back_text::write_back_until_result;
 pub use chip_text::chip_overview;
 pub use decisions_before_step_text::write_decisions_answer;
 pub use ended::{find_ended_marked_nodes, find_live_nodes};
+pub use expectations_text::{
+    expectation_line_start, write_expectation_statuses, write_expectations,
+};
 pub use line_number::last_written_line_number;
+pub use link_fault_text::{LINK_FAULT_ROOM, push_link_fault};
+pub use observation_text::{OBSERVATION_ROOM, SIDES_ROOM, push_observation, push_sides, sides_of};
 pub use races_text::write_races;
 pub use ring_text::awaited_neighbour;
 pub use rollback_effects_text::write_rollback_effects;

@@ -51,6 +51,7 @@ COND is one of:
   p NNN X                P of NNN is X
   reach NNN X            NNN fetches next, at X
   change NNN HH [= N]    NNN wrote at that address, or wrote N
+  broken                 an expectation of the source was broken
 COND or COND ..          ends at the first that holds
 VALUE: t s r p a b i, d2 to d9, r1 to r8, io, slot, carry, step, [HH]   OP: = != < <= > >=
 N in COND: 12, -3, 0x1f, six hexadecimal digits, a port, a label        X: also a label, or line L

@@ -1,7 +1,7 @@
 use Rattle.std.proofs.Common.{◌∙◌, ◌++◌, ℕ, List, ap, append_assoc}
 use Rattle.std.specs.Prelude.{codes}
 use Rattle.ga_word.specs.Word.{hex_digits_of_word}
-use Rattle.ga_check_report.proofs.link_fault.push_further_word.Goals as goal
+use Rattle.ga_explorer_text.proofs.link_fault_text.push_further_word.Goals as goal
 
 pub returns-clause-text : goal.returns-clause-text
 returns-clause-text c =

@@ -8,8 +8,8 @@ use Rattle.ga_node.specs.declared.wait.Wait.TheVariants.{Nothing, Fetch, Read, W
 use Rattle.ga_scheduler.specs.Values.{node_value}
 use Rattle.ga_state_expectations.specs.declared.expectation.NodeRequirement.{NodeRequirement}
 use Rattle.ga_state_expectations.specs.declared.expectation.NodeRequirement.TheVariants as required
-use Rattle.ga_check_report.specs.declared.outcome.NodeObservation.{NodeObservation}
-use Rattle.ga_check_report.specs.declared.outcome.NodeObservation.TheVariants.{Is, Runs, AwaitsCode, Reads, Writes, Stopped}
+use Rattle.ga_state_expectations.specs.declared.observation.NodeObservation.{NodeObservation}
+use Rattle.ga_state_expectations.specs.declared.observation.NodeObservation.TheVariants.{Is, Runs, AwaitsCode, Reads, Writes, Stopped}
 
 -- what a node does that waits so and isn't stopped
 abbrev pub observation_of_wait : Wait → NodeObservation
