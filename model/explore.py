@@ -3,6 +3,7 @@
 import re
 
 from conditions import SIGN, SIGNS, number_in, test_in, value_of
+from expecting import SessionExpectations
 from listing import NAMES
 from machine import Machine, NODES, name
 from node import FETCH_DUE, Node, SIDES, neighbour, target_of
@@ -17,7 +18,7 @@ LONGEST = 200
 STORES = {"0c": ("!p", "p"), "0d": ("!+", "a"), "0e": ("!b", "b"), "0f": ("!", "a")}
 CONDITION = re.compile(
     rf"pass {NODE} {NODE} (?:{SIGN} (?P<passed>.+)|{NUMBER})|step {NODE} {NUMBER}|stop|stop {NODE}|wait {NODE}|mem (?P<of>{NODE}) {HH} = (?P<held>.+)|p {NODE} {PLACE}"
-    rf"|reach {NODE} {PLACE}|change (?P<in>{NODE}) {HH}(?: = (?P<stored>.+))?|(?P<node>{NODE}) (?P<test>.+)", re.DOTALL
+    rf"|broken|reach {NODE} {PLACE}|change (?P<in>{NODE}) {HH}(?: = (?P<stored>.+))?|(?P<node>{NODE}) (?P<test>.+)", re.DOTALL
 )
 MOST_CONDITIONS = 8
 RUN = re.compile(rf"run(?: (greedy|random ({NUMBER})))?(?: ({NUMBER}))?(?: until (.+))?")
@@ -118,7 +119,9 @@ def next_node(machine, order, turn, state):
 
 class Explorer(Machine):
     notes = Notes()
+    expected = SessionExpectations([])
     # what is the case, or what to do, where a command is refused
+    NOTHING_EXPECTED = "no 35 noexpect: the source has no line expect; write one, as expect 001 t = 3"
     FULL = "give a greater --limit; or save, dump, and go on from the dump"
     ADVICE = {
         "no 1 waiting": "who shows for whom it waits",
@@ -161,6 +164,8 @@ class Explorer(Machine):
         conditions = until.split(" or ") if until else []
         if not (found or back) or len(conditions) > MOST_CONDITIONS or not all(map(self.is_condition, conditions)):
             return None
+        if "broken" in conditions and not self.expected.lines:
+            return self.NOTHING_EXPECTED
         if back:
             return self.back_until(back[1] and number_of(back[1]), conditions)
         order, seed, most, _ = found.groups()
@@ -210,16 +215,16 @@ class Explorer(Machine):
     def test(self, node, text):
         return test_in(text, self.label(node))
 
-    @staticmethod
-    def written(conditions):
+    def written(self, conditions):
         """The nodes whose writes some conditions ask for."""
-        return [number_of(condition.split(" ")[1]) for condition in conditions if condition.startswith("change ")]
+        asked = [number_of(condition.split(" ")[1]) for condition in conditions if condition.startswith("change ")]
+        return asked + (self.expected.written(number_of) if "broken" in conditions else [])
 
     @command(
         "run [greedy|random SEED] [N] [until COND]", CHANGE,
         "make up to N events, in rounds or in this order\n"
         "COND: NNN VALUE OP N, pass NNN MMM OP N, pass NNN MMM J, step NNN K, stop, stop NNN,\n"
-        "      wait NNN, mem NNN HH = N, p NNN X, reach NNN X, change NNN HH [= N], COND or COND\n"
+        "      wait NNN, mem NNN HH = N, p NNN X, reach NNN X, change NNN HH [= N], broken, COND or COND\n"
         "VALUE: t s r p a b i, d2 to d9, r1 to r8, io, slot, carry, step, [HH]\n"
         "OP: = != < <= > >=   N: a number, a port, a label   X: an address, a label, line N",
         "reached M EVENT, made M, quiet M or full M: how many events, and why no more", "run 1000 until stop or 001 t = 0x150", 230,
@@ -246,6 +251,8 @@ class Explorer(Machine):
 
     def holds(self, condition, told, before):
         """Whether a condition holds right after the event with this text; `before` has some nodes as they were before it."""
+        if condition == "broken":
+            return self.expected.is_broken_by(self, told, before)
         kind, *words = condition.split(" ")
         event = told.split(" ")
         own = event[0] != "pass"
@@ -288,16 +295,29 @@ class Explorer(Machine):
             return self.notes.begun(number_of(node), int(line))
         return int(word, 16) if re.fullmatch(W, word) else self.notes.address(number_of(node), word)
 
+    def replayed(self, written):
+        """The machine after each event, with the event and these nodes as they were before it."""
+        again = Explorer(self.load, self.limit)
+        again.notes, again.expected = self.notes, self.expected
+        for event in self.events:
+            again.events.append(event)
+            before = {it: again.chip[it].copy() for it in written}
+            again.apply(event)
+            yield again, event, before
+
+    def places_where(self, holds):
+        """The places of the events after which this holds."""
+        written = self.expected.written(number_of)
+        return (place for place, (again, _, before) in enumerate(self.replayed(written)) if holds(again, again.told[-1], before))
+
     def back_until(self, only, conditions):
         """Undoes the newest event, of one node if one is named, after which one of the conditions held, and all later ones."""
-        again, newest = Explorer(self.load, self.limit), None
-        again.notes = self.notes
-        for place, event in enumerate(self.events):
-            again.events.append(event)
-            before = {it: again.chip[it].copy() for it in self.written(conditions)}
-            again.apply(event)
-            if only in (None, *event) and any(again.holds(it, again.told[-1], before) for it in conditions):
+        newest = None
+        for place, (again, event, before) in enumerate(self.replayed(self.written(conditions))):
+            if only in (None, *event) and any(again.holds(it, again.told[-1], before) for it in conditions if it != "broken"):
                 newest = place
+        if "broken" in conditions:
+            newest = max((it for it in (newest, self.expected.newest_breach(self, only)) if it is not None), default=None)
         if newest is None:
             return "none"
         if only is not None:
@@ -665,6 +685,13 @@ class Explorer(Machine):
         return "\n".join([f"races {len(lines)}"] + lines + last)
 
     @command(
+        "expectations", QUERY, "how each line expect of the source stands",
+        "for each whether it is held, broken and by what, or pending: it depends on what comes or on other orders", "expectations", 6,
+    )  # fmt: skip
+    def answer_expectations(self):
+        return self.expected.answer(self)
+
+    @command(
         "save", QUERY, "the history as lines of debug",
         "step NNN for each event, the oldest first", "save", 10,
     )  # fmt: skip
@@ -706,6 +733,8 @@ COMMANDS += [
      "nothing", "quit"),
 ]  # fmt: skip
 FORMS = {form.split(" ")[0]: form for form, *_ in COMMANDS}
+# an example of each
+EXAMPLES = {name: example.split(", ")[0] for name, (_, _, _, _, example, *_) in zip(FORMS, COMMANDS)}
 CLASSES = {name: class_ for name, (_, class_, *_) in zip(FORMS, COMMANDS)}
 # how often one comes in generated sessions
 OFTEN = {name: often for name, (_, _, _, _, _, *given) in zip(FORMS, COMMANDS) for often in given}

@@ -13,6 +13,8 @@ import sys
 from itertools import zip_longest
 
 from conditions import generated_test, value_of
+from expectations import expectations_of
+from expecting import SessionExpectations
 from explore import FORMS, NODE, OFTEN, ROWS, STORES, VALUE, Explorer, parts_of, number_of
 from files import FIELDS, answer, given_of, load_of
 from machine import name
@@ -68,6 +70,31 @@ def some(draw, count, words=None):
     return [draw.choice(words or (WORDS + CALLS if draw.random() < 0.7 else ["right b! @b", "left b! !b", "@b", "!b", "dup !b", "0x1a5 b! @b", "0x1b5 b! @b drop @b"])) for _ in range(count)]
 
 
+def expected_lines(draw, load):
+    """Lines that say what is expected of a program with this load, about its first events: some are broken by them. None half of the time."""
+    if draw.random() < 0.5:
+        return []
+    machine = Explorer(load, EXPLORED_LIMIT)
+    machine.run(None, None, 150, [])
+    touched = sorted({it for event in machine.events for it in event if machine.steps[it] > 1}) or [0]
+    lines = []
+    for _ in range(draw.randint(1, 5)):
+        it = machine.chip[draw.choice(touched)]
+        node, held = name(it.number), draw.choice((it.d[0], it.ram[0x22], it.a, draw.randrange(4)))
+        lines.append(draw.choice((
+            f"{node} t = {it.d[0]}", f"{node} [22] < {held}", f"{node} awaits code", f"{node} reads right left", f"{node} writes right", f"{node} stops 1",
+            f"never {node} {generated_test(draw, 'a', it.a)} or stop", f"never {node} t = {held}", f"never change {node} 22 or wait {node}", f"never stuck {node}",
+            f"never reach {node} {it.p:06x} or stuck {node}", "every order ends", "one end",
+        )))  # fmt: skip
+    links = sorted({event for event in machine.events if len(event) == 2})
+    for writer, reader in draw.sample(links, min(len(links), 2)):
+        words = [int(told.split(" ")[5], 16) for told in machine.sent(writer, reader)][: draw.choice((1, 2, 3, 64))]
+        words[-1] ^= draw.choice((0, 0, 1))
+        lines.append(f"pass {name(writer)} {name(reader)} = {' '.join(map(str, words))}" + draw.choice(("", " ..", " 7")))
+    draw.shuffle(lines)
+    return [f"expect {it}" for it in lines if len(it) < 190]
+
+
 class Session:
     def __init__(self, number):
         self.base = Generator(number)
@@ -79,7 +106,7 @@ class Session:
         if number % 8 == 4:
             self.begin_with_format_1()
         if number % 2:
-            self.begin_with_source({7: coders_of, 9: rivals_of}.get(number % 10, source_of)(draw))
+            self.begin_with_source({7: coders_of, 9: rivals_of}.get(number % 10, source_of)(draw), random.Random(f"expected {number}"))
 
     def begin_with_format_1(self):
         """Leaves out what an image of format 1 can't give."""
@@ -89,13 +116,15 @@ class Session:
         self.machine.notes = Notes()
         self.machine.notes.set = given_of(["ga144 1"] + lines)
 
-    def begin_with_source(self, source):
+    def begin_with_source(self, source, extra):
         image, told, status = asm(source)
         if status == 0 and not told:
-            self.source, self.front = source, source + "end\n"
             load = load_of(image.splitlines())
+            lines = expected_lines(extra, load)
+            self.source, self.front = source, "".join(f"{it}\n" for it in [source.removesuffix("\n"), *lines, "end"])
             self.machine = Explorer(load, self.limit)
             self.machine.notes = Notes(source)
+            self.machine.expected = SessionExpectations(expectations_of(self.front)[0] if lines else [])
             self.base.nodes = [it.number for it in load if any(it.ram)]
 
     def node(self):
@@ -169,6 +198,8 @@ class Session:
 
     def condition(self, order):
         node, pick = self.node(), self.random.choice
+        if self.random.random() < (0.15 if self.machine.expected.lines else 0.01):
+            return "broken"
         if self.random.random() < 0.7:
             return pick(self.ahead(order))
         writer, reader = self.link()

@@ -14,6 +14,7 @@ import re
 import sys
 from itertools import zip_longest
 
+from expecting import SessionExpectations
 from explore import LONGEST, Explorer, cure
 from machine import Machine, NODES, name
 from node import FETCH_DUE, Node, SIDES, WORD, target_of
@@ -121,6 +122,15 @@ def settle(machine):
             machine.step(number)
 
 
+def expectations_in(source):
+    """The expectations of a source, and the source without their lines."""
+    if not re.search(r"(?m)^[ \t]*expect\b", source):
+        return [], source
+    from expectations import expectations_of
+
+    return expectations_of(source)
+
+
 def opened(path):
     """The machine of a session at its load, after `settle` in a folder `settled`; and the commands up to `quit`. Raises Unread."""
     folder = os.path.basename(os.path.dirname(path))
@@ -129,15 +139,18 @@ def opened(path):
     past = lines.index("end") + 1 if "end" in lines else len(lines)
     kind = Explorer if {"explore", "check"} & {*path.split(os.sep)} else Machine
     limit = int(folder[6:]) if folder.startswith("limit-") else EXPLORED_LIMIT if kind is Explorer else DEFAULT_LIMIT
-    load, source = lines[:past], None
+    load, source, rest, expected = lines[:past], None, None, []
     if kind is Explorer and not load[0].startswith("ga144"):
         source = "".join(f"{line}\n" for line in load)
-        load = asm(source)[0].splitlines()
+        expected, rest = expectations_in(source)
+        load = asm(rest)[0].splitlines()
     if folder == "chip":
         with open(f"{path}.image", encoding="latin-1", newline="") as file:
             load = file.read().splitlines()
     machine = kind(load_of(load), limit)
-    machine.notes = Notes(source)
+    machine.notes = Notes(rest)
+    if kind is Explorer:
+        machine.expected = SessionExpectations(expected)
     if source is None or folder == "chip":
         machine.notes.set = given_of(load)
     if folder == "settled":

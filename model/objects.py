@@ -25,6 +25,22 @@ def decided_text(it):
     return f"  decided by {event_text(it)}" if it["taken"] else f", not {event_text(it)}\n"
 
 
+def cause_text(it):
+    """What a node, or a word over a link, has that breaks an expectation."""
+    because = it["because"]
+    if because == "value":
+        return f"is {it['value']:06x}"
+    if because == "word":
+        return f"word {it['place']} is {it['value']:06x}"
+    if because == "further word":
+        return f"a further word is {it['value']:06x}"
+    if because == "no word":
+        return f"word {it['place']} never comes"
+    if because == "stop":
+        return f"stop {it['stop']}"
+    return " ".join([FOUND[because], *it.get("sides", "").split()])
+
+
 class Answer:
     """The text of the objects about one file."""
 
@@ -56,23 +72,9 @@ class Answer:
     # ---- expectations
 
     def cause(self, it):
-        """What breaks an expectation."""
-        because = it["because"]
-        if because == "value":
-            return f"is {it['value']:06x}"
-        if because == "word":
-            return f"word {it['place']} is {it['value']:06x}"
-        if because == "further word":
-            return f"a further word is {it['value']:06x}"
-        if because == "no word":
-            return f"word {it['place']} never comes"
-        if because == "stop":
-            return f"stop {it['stop']}"
-        if because == "event":
+        if it["because"] == "event":
             return event_text(it)
-        if because == "ends":
-            return f"{self.at_least}{it['ends']} ends"
-        return " ".join([FOUND[because], *it.get("sides", "").split()])
+        return f"{self.at_least}{it['ends']} ends" if it["because"] == "ends" else cause_text(it)
 
     def known(self, it):
         if it["outcome"] != "broken":

@@ -372,7 +372,7 @@ class Drawn:
             self.machine.step(number_of(words[0]))
 
     def begin_far(self):
-        self.made.begin_with_source(FAR.split("end\n")[0])
+        self.made.begin_with_source(FAR.split("end\n")[0], self.draw)
         self.machine, self.text = self.made.machine, self.made.front
         self.machine.limit = EXPLORED_LIMIT
         self.obey(FAR.splitlines()[-1])

@@ -4,6 +4,8 @@
 How many conditions a run has is in the line that asks, and whether it names the value of `whence`.
 """
 
+from objects import cause_text
+
 SIDES = ("right", "down", "left", "up")
 LETTERS = {"right": "r", "down": "d", "left": "l", "up": "u"}
 OPCODES = "; ex jump call unext next if -if @p @+ @b @ !p !+ !b ! +* 2* 2/ ~ + and or drop dup pop over a . push b! a!".split(" ")
@@ -95,7 +97,6 @@ class SessionText:
     def node_text(self, it):
         waits = {"fetches": "fetch", "reads": "read", "writes": "write"}
         sides = "".join(LETTERS[side] if it[f"at_{side}"] else "-" for side in SIDES)
-        sides = sides.replace("-", "") if it["does"] == "writes" else sides
         state = f"{waits[it['does']]} {sides}" if it["does"] in waits else f"stop {it['stop']}" if it["does"] == "stopped" else "run"
         words = " ".join(f"{name} {hex6(it[name])}" for name in "pabi")
         stack, returns = ([hex6(row["value"]) for row in rows] for rows in (it["rows"][:10], it["rows"][10:]))
@@ -106,6 +107,18 @@ class SessionText:
 
     def why_text(self, it):
         return f"chain {len(it['rows'])}\n" + "".join(f"{event_text(row)}\n" for row in it["rows"]) if it["leads"] else "independent\n"
+
+    def expectations_text(self, it):
+        return "".join(f"line {row['line']}: {row['text']}: {self.status_text(row)}\n" for row in it["rows"]) or "none\n"
+
+    @staticmethod
+    def status_text(row):
+        """How an expectation stands, and what breaks it."""
+        if row["outcome"] != "broken":
+            assert row["because"] is None
+            return row["outcome"]
+        because = {"event": lambda: event_text(row), "stuck": lambda: f"stuck {row['node']}"}.get(row["because"], lambda: cause_text(row))()
+        return f"broken, {because}"
 
     def words_text(self, it):
         rows = (f"{row['number']} {it['from']} {row['from_step']} {it['to']} {row['to_step']} {hex6(row['word'])}\n" for row in it["rows"])

@@ -19,7 +19,7 @@ TOP = os.path.dirname(os.path.dirname(os.path.dirname(os.path.abspath(__file__))
 sys.path.insert(0, f"{TOP}/model")
 from browser import Browser
 from explore import CHANGE, CLASSES
-from runs import ends, orders, races, rebuilt, until_stop, whence
+from runs import ends, expectations, orders, races, rebuilt, until_stop, whence
 from listing import listed
 from looks import commands, from_afar, shots, shown, times
 import mouse
@@ -343,7 +343,7 @@ def main():
         dice, taken = random.Random(7), 0
         for name in browser.run("return [...document.getElementById('examples').options].map(it => it.value).filter(it => it)"):
             taken += clicks(browser, name, dice)
-        for test in (until_stop, orders, rebuilt, whence, ends, races, shown, from_afar):
+        for test in (until_stop, expectations, orders, rebuilt, whence, ends, races, shown, from_afar):
             test(browser, check)
         source_lines(browser)
         keys(browser)

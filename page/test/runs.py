@@ -4,6 +4,8 @@ import json, os
 TOP = os.path.dirname(os.path.dirname(os.path.dirname(os.path.abspath(__file__))))
 with open(f"{TOP}/examples/first_come.f18") as it:
     FIRST_COME = json.dumps(it.read())
+with open(f"{TOP}/examples/explore/expectations_of_a_program") as it:
+    EXPECTED = json.dumps(it.read().split("end\n")[0] + "end\n")
 with open(f"{TOP}/examples/debug/programs/fault") as it:
     FAULT = json.dumps(it.read().split("end\n")[0] + "end\n")
 
@@ -45,6 +47,21 @@ return { there, reached, free, last: events[events.length - 1], alike: JSON.stri
     check(result["kept"].startswith("kept 163 made 175 ") and result["words"] == result["words_again"], f"run until stop, then: {result}")
     check(result["effects"] == result["effects_asked"] == result["effects_again"] and result["effects"][0] == "effects 12 2", f"effects: {result['effects']}")
     check(result["who"] == result["who_asked"] == result["again"] and "000 reads r 001 stopped" in result["who"], f"who: {result['who']}")
+
+
+def expectations(browser, check):
+    result = browser.run(USED + """
+page.open(%s);
+const marked = () => ["held", "broken", "pending"].map(state => [...find("source").querySelectorAll(".line." + state)].map(it => `line ${it.querySelector(".number").textContent}: ${it.title}`));
+const states = ["back until broken", "run until broken", "run", "back"].map(line => { page.command(line); return [marked(), query("expectations")]; });
+page.open("node 000\\n: main 1 ;\\n"); const none = [marked(), query("expectations")];
+return { states, none };
+""" % EXPECTED)
+    for marked, asked in result["states"]:
+        wanted = [[it for it in asked if f": {state}" in it] for state in ("held", "broken", "pending")]
+        check(marked == wanted and len(asked) == 10, f"expectations: {marked} instead of {wanted}")
+    check(result["states"][1][0][1] == ["line 8: pass 000 001 = 1 2 3: broken, word 2 is 000005"], f"broken: {result['states'][1]}")
+    check(result["none"] == [[[], [], []], ["none"]], f"no expectations: {result['none']}")
 
 
 def orders(browser, check):

@@ -125,6 +125,7 @@ const HEADED = ["node", "trace", "words", "whence"];
 const NAMED = {
   save: (it, at, lines) => node_named(lines[at].slice(5)),
   who: it => [{ text: `idle ${it.idle}` }, { text: `and ${it.deadlocked_idle} idle` }, ...Array.from(new Set(it.rows.flatMap(row => [row.node, row.right, row.down, row.left, row.up]))).flatMap(node_named)],
+  expectations: (it, at) => { const row = it.rows[at]; return row ? [{ text: `line ${row.line}`, line: row.line, column: 0 }, ...names_in(row)] : []; },
   because: (it, at) => { const row = it.rows[at >> 1]; return !row ? [] : at % 2 ? names_in(value_tested(row)) : names_in(row, it); },
 };
 

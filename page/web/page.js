@@ -79,6 +79,7 @@ class Page {
   // Draws the history and the chip as they are now, with a step that is chosen.
   after(chosen = null) {
     this.arrange();
+    this.source.expected = this.session.expectations();
     if (this.picture.was_whole) this.picture.begin();
     this.picture.show(this.picture.deepest);
     if (!chosen || !this.session.event_at(chosen)) return this.draw();

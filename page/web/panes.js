@@ -3,7 +3,7 @@
 // The program's text. The word of the chosen step is marked, and a click on a word chooses its steps.
 class SourcePane {
   constructor(page) {
-    this.page = page; this.list = new List(find("source"), row => this.row(row)); this.text = null;
+    this.page = page; this.list = new List(find("source"), row => this.row(row)); this.text = null; this.expected = {};
     find("source").onclick = event => { const key = event.target.dataset.key; if (key) page.choose_word(key); };
     find("source").onpointerover = event => { const key = event.target.dataset.key; if (key) page.prepare_word(key); };
   }
@@ -30,8 +30,10 @@ class SourcePane {
     if (left < box.scrollLeft || right > box.scrollLeft + box.clientWidth) box.scrollLeft = right <= box.clientWidth ? 0 : left - box.clientWidth / 2;
   }
   row(at) {
-    const text = this.text.text(at), own = this.text.node_at(at, Infinity) === this.page.selected, row = element("div", `line${own ? " own" : ""}${this.line === at + 1 ? " marked" : ""}`);
+    const text = this.text.text(at), own = this.text.node_at(at, Infinity) === this.page.selected, expected = this.expected[at + 1];
+    const row = element("div", `line${own ? " own" : ""}${this.line === at + 1 ? " marked" : ""}${expected ? ` ${expected.state}` : ""}`);
     let upto = 0;
+    if (expected) row.title = expected.text;
     row.append(element("span", "number", this.text.number(at)));
     for (const { text: word, from, key, remark } of this.text.words(at)) {
       if (from > upto) row.append(text.slice(upto, from));

@@ -102,6 +102,17 @@ class Session {
     return { answer, line, is_cut: ended };
   }
 
+  // How the expectations of each line of the source stand: broken if one is, else pending if one is, else held; and their texts.
+  expectations() {
+    const [{ rows = [] }] = this.is_source && /^[ \t]*expect[ \t]/m.test(this.load) && this.ask(["expectations"]) || [{}];
+    const texts = rows.length ? this.answer_text("expectations") : [], found = {};
+    rows.forEach(({ line, outcome }, i) => {
+      const text = (texts[i] || "").slice(`line ${line}: `.length), { texts: others = [], states = [] } = found[line] || {};
+      found[line] = { texts: [...others, text], states: [...states, outcome] };
+    });
+    return Object.fromEntries(Object.entries(found).map(([line, { texts, states }]) => [line, { text: texts.join("\n"), state: ["broken", "pending", "held"].find(it => states.includes(it)) }]));
+  }
+
   // A rollback. `effects` names what it removes. `more` has the answers to the queries after it, if there is memory for them.
   rewind(line, questions = []) {
     const all = this.ask([line.replace("rewind", "effects"), line, ...questions]);

@@ -193,6 +193,10 @@ class Session:
         """The nodes that wait, and for which neighbours."""
         return self._spelled("who")
 
+    def expectations(self) -> Answer:
+        """How each expectation of the source stands: a row each, whose `outcome` is "held", "broken" or "pending"."""
+        return self._spelled("expectations")
+
     def chip(self) -> str:
         """The whole chip, as text."""
         return self._spelled("chip")["text"]

@@ -1,4 +1,4 @@
-"""Sessions of programs in examples/. What is wanted is what docs/TUTORIAL.md and docs/FINDING.md have of the same commands."""
+"""Sessions of programs in examples/. What is wanted is what docs/TUTORIAL.md, docs/FINDING.md and docs/TESTING-PROGRAMS.md have of the same commands."""
 
 import os
 import re
@@ -129,6 +129,21 @@ def test_commands_in_the_file(session, tmp_path):
 def test_a_program_on_standard_input():
     with pytest.raises(ValueError):
         Session("-")
+
+
+def test_expectations(session):
+    program = session(os.path.join("expect", "status-5", "filter_a_step_short.f18"))
+    ran = program.run(until="broken")
+    assert (ran["events"], ran["what"], ran["from"], ran["to"], ran["word"]) == (2986, "pass", "006", "007", 0x38)
+    *others, word = program.expectations()["rows"]
+    assert (word["line"], word["outcome"], word["because"], word["place"], word["value"]) == (49, "broken", "word", 10, 0x38)
+    assert {row["outcome"] for row in others} == {"pending"}
+    program.back(until="broken")
+    assert {row["outcome"] for row in program.expectations()["rows"]} == {"pending"}
+    assert session("first.f18").expectations()["rows"] == []
+    with pytest.raises(Refused) as refusal:
+        session("first.f18").run(until="broken")
+    assert (refusal.value.number, refusal.value.word) == (35, "noexpect")
 
 
 def test_a_word_that_is_no_command(session):

@@ -22,7 +22,7 @@ use ga_check_report::{ConditionFault, Verdict};
 use ga_console::{
     CommandLineFault, Settings, Status, parse_command_line, session, write_worker_race_report,
 };
-use ga_explorer::{QueryUsage, serve_explorer_session};
+use ga_explorer::{CommandUsage, serve_explorer_session};
 use ga_explorer_json::explore_json;
 use ga_picture::{PictureView, draw_session};
 use std::env;
@@ -349,7 +349,7 @@ fn status_of_verdict(rt: &HostRuntime, verdict: Verdict) -> u8 {
 /// Writes the requested help. That of `explore` has a line in the place of the commands that a session lists.
 fn help(rt: &HostRuntime, text: &str) -> ExitCode {
     let written = match text.split_once("{commands}\n") {
-        Some((above, below)) => print!(rt; "{above}{}{below}", QueryUsage),
+        Some((above, below)) => print!(rt; "{above}{}{below}", CommandUsage),
         None => print!(rt; "{text}"),
     };
     match written {

@@ -1,7 +1,8 @@
 -- What `ga144 check --json` prints of the expectations of a program (docs/JSON.md; this project's own).
-use Rattle.std.specs.Prelude.{ℕ, ◌+◌, pos, List, [], ◌∷◌, ◌++◌, length, drop, codes, slice_index_or, Option, Some, None}
+use Rattle.std.specs.Prelude.{ℕ, ◌+◌, pos, Bool, List, [], ◌∷◌, ◌++◌, length, drop, codes, slice_index_or, Option, Some, None}
 use Rattle.ga_text.specs.Lines.{Text}
-use Rattle.ga_ports.specs.Address.{single_side_set}
+use Rattle.ga_ports.specs.Address.{single_side_set, has_side}
+use Rattle.ga_ports.specs.declared.side.Side.TheVariants as side
 use Rattle.ga_json.specs.Values.{JsonValue, number, string}
 use Rattle.ga_json.specs.FieldValues.{text_json, optional_number_json}
 use Rattle.ga_json.specs.Fields.{NamedValue, json_object}
@@ -9,13 +10,13 @@ use Rattle.ga_json.specs.Compact.{json_line}
 use Rattle.ga_state_ends.specs.Decisions.{EndDecision}
 use Rattle.ga_state_ends.specs.Ends.{EndSearchResult}
 use Rattle.ga_state_expectations.specs.declared.source.LineExpectation.{LineExpectation}
-use Rattle.ga_check_report.specs.declared.outcome.NodeObservation.{NodeObservation}
-use Rattle.ga_check_report.specs.declared.outcome.NodeObservation.TheVariants.{Is, Runs, AwaitsCode, Reads, Writes, Stopped}
+use Rattle.ga_state_expectations.specs.declared.observation.NodeObservation.{NodeObservation}
+use Rattle.ga_state_expectations.specs.declared.observation.NodeObservation.TheVariants.{Is, Runs, AwaitsCode, Reads, Writes, Stopped}
 use Rattle.ga_check_report.specs.declared.outcome.Breach.{Breach}
 use Rattle.ga_check_report.specs.declared.outcome.Breach.TheVariants.{Unmet, Reached, OverLink, Endless, SeveralEnds}
 use Rattle.ga_check_report.specs.declared.outcome.ExpectationOutcome.{ExpectationOutcome}
 use Rattle.ga_check_report.specs.declared.outcome.ExpectationOutcome.TheVariants.{Holds, Broken, Unknown}
-use Rattle.ga_check_report.specs.ExpectationTexts.{side_names_after_blanks}
+use Rattle.ga_explorer_text.specs.Observed.{optional_side_text}
 use Rattle.ga_check_report.specs.JsonValues.{optional_text_json, search_result_fields}
 use Rattle.ga_check_report.specs.EventJson.{event_detail_fields}
 use Rattle.ga_check_report.specs.LinkFaults.{link_fault_keyword, link_fault_detail_fields}
@@ -23,9 +24,13 @@ use Rattle.ga_check_report.specs.EndJson.{decision_json_objects_text}
 
 -- ---- what a node holds or does
 
--- sides with a blank between two
+-- those of the sides right, down, left and up that are meant, with a blank between two
+abbrev pub listed_sides : Bool → Bool → Bool → Bool → Text
+listed_sides right down left up =
+    drop 1 (optional_side_text right (codes " right") ++ optional_side_text down (codes " down") ++ optional_side_text left (codes " left") ++ optional_side_text up (codes " up"))
+
 abbrev pub side_list_text : ℕ → Text
-side_list_text sides = drop 1 (side_names_after_blanks sides)
+side_list_text sides = listed_sides (has_side sides side.Right) (has_side sides side.Down) (has_side sides side.Left) (has_side sides side.Up)
 
 abbrev pub observation_keyword : NodeObservation → Text
 observation_keyword (Is word) = codes "value"
@@ -35,20 +40,12 @@ observation_keyword (Reads sides) = codes "reads"
 observation_keyword (Writes side) = codes "writes"
 observation_keyword (Stopped stop) = codes "stop"
 
-abbrev pub awaited_sides_of_observation_text : NodeObservation → Text
-awaited_sides_of_observation_text (Is word) = []
-awaited_sides_of_observation_text Runs = []
-awaited_sides_of_observation_text AwaitsCode = []
-awaited_sides_of_observation_text (Reads sides) = side_list_text sides
-awaited_sides_of_observation_text (Writes side) = side_list_text (single_side_set side)
-awaited_sides_of_observation_text (Stopped stop) = []
-
 abbrev pub observation_detail_fields : NodeObservation → List NamedValue
 observation_detail_fields (Is word) = (codes "value", number (pos word)) ∷ []
 observation_detail_fields Runs = []
 observation_detail_fields AwaitsCode = []
-observation_detail_fields (Reads sides) = (codes "sides", string (awaited_sides_of_observation_text (Reads sides))) ∷ []
-observation_detail_fields (Writes side) = (codes "sides", string (awaited_sides_of_observation_text (Writes side))) ∷ []
+observation_detail_fields (Reads sides) = (codes "sides", string (side_list_text sides)) ∷ []
+observation_detail_fields (Writes side) = (codes "sides", string (side_list_text (single_side_set side))) ∷ []
 observation_detail_fields (Stopped stop) = (codes "stop", number (pos stop)) ∷ []
 
 -- ---- what is known of an expectation

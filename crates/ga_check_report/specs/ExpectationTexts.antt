@@ -1,44 +1,20 @@
 -- What `ga144 check` prints of the expectations of a program (docs/REFERENCE.md, "Every expectation"; this project's own): the numbers of states and
 -- of expectations, the line of each with what decides that it is broken, and which bound was met.
 use Rattle.std.specs.Prelude.{ℕ, ◌+◌, Bool, true, false, List, [], ◌∷◌, ◌++◌, length, codes, decimal, slice_index_or, Option, Some, None}
-use Rattle.ga_word.specs.Word.{hex_digits_of_word}
-use Rattle.ga_ports.specs.Address.{single_side_set, has_side}
-use Rattle.ga_ports.specs.declared.side.Side.TheVariants as side
 use Rattle.ga_text.specs.Lines.{Text}
 use Rattle.ga_state_search.specs.declared.fault.SearchFault.{SearchFault}
 use Rattle.ga_state_ends.specs.Decisions.{EndDecision}
 use Rattle.ga_state_ends.specs.Ends.{EndSearchResult}
 use Rattle.ga_state_expectations.specs.declared.source.LineExpectation.{LineExpectation}
 use Rattle.ga_check_report.specs.declared.request.CheckRequest.{CheckRequest}
-use Rattle.ga_check_report.specs.declared.outcome.NodeObservation.{NodeObservation}
-use Rattle.ga_check_report.specs.declared.outcome.NodeObservation.TheVariants.{Is, Runs, AwaitsCode, Reads, Writes, Stopped}
+use Rattle.ga_explorer_text.specs.Observed.{observation_text, link_fault_text}
+use Rattle.ga_explorer_text.specs.Expected.{expectation_line_start}
 use Rattle.ga_check_report.specs.declared.outcome.Breach.{Breach}
 use Rattle.ga_check_report.specs.declared.outcome.Breach.TheVariants.{Unmet, Reached, OverLink, Endless, SeveralEnds}
 use Rattle.ga_check_report.specs.declared.outcome.ExpectationOutcome.{ExpectationOutcome}
 use Rattle.ga_check_report.specs.declared.outcome.ExpectationOutcome.TheVariants.{Holds, Broken, Unknown}
-use Rattle.ga_check_report.specs.LinkFaults.{link_fault_text}
 use Rattle.ga_check_report.specs.DecisionTexts.{event_text_without_line_end, end_decision_text}
 use Rattle.ga_check_report.specs.EndTexts.{counted_noun_text, at_least_text, is_fully_explored, search_stop_text}
-
--- ---- what a node holds or does
-
-abbrev pub optional_side_text : Bool → Text → Text
-optional_side_text true name = name
-optional_side_text false name = []
-
--- the sides of a set, each after a blank
-abbrev pub side_names_after_blanks : ℕ → Text
-side_names_after_blanks sides =
-    optional_side_text (has_side sides side.Right) (codes " right") ++ optional_side_text (has_side sides side.Down) (codes " down")
-    ++ optional_side_text (has_side sides side.Left) (codes " left") ++ optional_side_text (has_side sides side.Up) (codes " up")
-
-abbrev pub observation_text : NodeObservation → Text
-observation_text (Is word) = codes "is " ++ hex_digits_of_word word
-observation_text Runs = codes "runs"
-observation_text AwaitsCode = codes "waits for code"
-observation_text (Reads sides) = codes "waits to read" ++ side_names_after_blanks sides
-observation_text (Writes side) = codes "waits to write" ++ side_names_after_blanks (single_side_set side)
-observation_text (Stopped stop) = codes "stop " ++ decimal stop
 
 -- ---- the line of an expectation, which has this number, from 1 on
 
@@ -58,9 +34,6 @@ abbrev pub outcome_text : Bool → ℕ → ExpectationOutcome → Text
 outcome_text whole number Holds = codes ": holds in every order\n"
 outcome_text whole number (Broken breach) = codes ": broken, " ++ breach_text whole number breach ++ codes "\n"
 outcome_text whole number Unknown = codes ": not known\n"
-
-abbrev pub expectation_line_start : ℕ → Text
-expectation_line_start line = codes "line " ++ decimal line ++ codes ": "
 
 -- where it is, its words and what is known of it
 abbrev pub expectation_line : Bool → ℕ → LineExpectation → ExpectationOutcome → Text

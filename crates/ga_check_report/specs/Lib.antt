@@ -13,7 +13,6 @@ pub mod LinkFaults
 pub mod Never
 pub mod NeverJson
 pub mod NeverTexts
-pub mod Observations
 pub mod Opened
 pub mod Outcomes
 pub mod SameEnd

@@ -1,19 +1,12 @@
--- How the words over a link break an expectation, as `ga144 check` prints it (docs/REFERENCE.md, "Every expectation"; docs/JSON.md; this project's own).
-use Rattle.std.specs.Prelude.{ℕ, ◌+◌, ◌%◌, pos, List, [], ◌∷◌, ◌++◌, codes, decimal}
-use Rattle.ga_word.specs.Word.{word_modulus, hex_digits_of_word}
+-- How the words over a link break an expectation, as fields of an object (docs/JSON.md; this project's own).
+use Rattle.std.specs.Prelude.{ℕ, ◌+◌, pos, List, [], ◌∷◌, codes}
 use Rattle.ga_text.specs.Lines.{Text}
 use Rattle.ga_json.specs.Values.{number}
 use Rattle.ga_json.specs.Fields.{NamedValue}
 use Rattle.ga_state_links.specs.declared.expectation.LinkFault.{LinkFault}
 use Rattle.ga_state_links.specs.declared.expectation.LinkFault.TheVariants.{OtherWord, ExtraWord, MissingWord}
 
--- after this number of words that came as expected
-abbrev pub link_fault_text : ℕ → LinkFault → Text
-link_fault_text place (OtherWord word) = codes "word " ++ decimal (place + 1) ++ codes " is " ++ hex_digits_of_word (word % word_modulus)
-link_fault_text place (ExtraWord word) = codes "a further word is " ++ hex_digits_of_word (word % word_modulus)
-link_fault_text place MissingWord = codes "word " ++ decimal (place + 1) ++ codes " never comes"
-
--- the same in a word
+-- how they do, in a word
 abbrev pub link_fault_keyword : LinkFault → Text
 link_fault_keyword (OtherWord word) = codes "word"
 link_fault_keyword (ExtraWord word) = codes "further word"

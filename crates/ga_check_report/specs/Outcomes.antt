@@ -33,7 +33,7 @@ use Rattle.ga_check_report.specs.EndTexts.{is_fully_explored}
 use Rattle.ga_check_report.specs.SameEnd.{verdict_with_single_end_outcome}
 use Rattle.ga_check_report.specs.declared.request.CheckRequest.{CheckRequest}
 use Rattle.ga_check_report.specs.Never.{HasReachedEvent}
-use Rattle.ga_check_report.specs.Observations.{observation_for_requirement}
+use Rattle.ga_state_expectations.specs.Observations.{observation_for_requirement}
 
 -- ---- what was found
 

@@ -25,7 +25,6 @@ use Rattle.ga_check_report.specs.BreachDecisions.{AreDecisionsOfBreaches}
 use Rattle.ga_check_report.specs.Checking.{IsWrittenWithVerdictOrFails}
 use Rattle.ga_check_report.specs.Outcomes.{expectations_verdict}
 use Rattle.ga_json.specs.declared.format.ReportFormat.{ReportFormat}
-use Rattle.ga_check_report.specs.ExpectationJson.{awaited_sides_of_observation_text}
 use Rattle.ga_check_report.specs.Opened.{IsUnopenedProgramAnswer}
 use Rattle.ga_check_report.specs.Expected.{WritesExpectationsReport}
 
@@ -50,19 +49,6 @@ IsNeverOfConditions conditions (Never listed) = listed.items ≡ conditions
 IsNeverOfConditions conditions (LinkPassesWords expected) = ⊥
 IsNeverOfConditions conditions EveryOrderEnds = ⊥
 IsNeverOfConditions conditions OneEnd = ⊥
-
--- the sides that the node awaits
-abbrev pub awaited_sides_of_breach_text : Breach → Text
-awaited_sides_of_breach_text (Unmet state observation) = awaited_sides_of_observation_text observation
-awaited_sides_of_breach_text (Reached made) = []
-awaited_sides_of_breach_text (OverLink place fault) = []
-awaited_sides_of_breach_text Endless = []
-awaited_sides_of_breach_text (SeveralEnds ends) = []
-
-abbrev pub awaited_sides_of_outcome_text : ExpectationOutcome → Text
-awaited_sides_of_outcome_text Holds = []
-awaited_sides_of_outcome_text (Broken breach) = awaited_sides_of_breach_text breach
-awaited_sides_of_outcome_text Unknown = []
 
 -- a program was opened, or not
 abbrev pub IsProgramOpenResult : ReportFormat → ℕ → Bytes → UnreadInput → Bytes → Text → Result ExplorerState Status → Type 0

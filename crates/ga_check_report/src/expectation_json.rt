@@ -6,17 +6,17 @@ ghost use Rattle.ga_text.specs.Output.{WritesExactly};
 ghost use Rattle.ga_json.specs.Compact.{json_line};
 ghost use Rattle.ga_json.specs.Fields.{named_field_value};
 ghost use Rattle.ga_check_report.specs.JsonValues.{optional_text_json};
-ghost use Rattle.ga_check_report.specs.inner.{awaited_sides_of_breach_text, awaited_sides_of_outcome_text};
-ghost use Rattle.ga_check_report.specs.ExpectationJson.{outcome_keyword, breach_keyword, outcome_breach_keyword, breach_session_number, outcome_session_number, observation_keyword, awaited_sides_of_observation_text, side_list_text, observation_detail_fields, breach_detail_fields, outcome_detail_fields, expectation_fields, expectation_object};
+ghost use Rattle.ga_check_report.specs.ExpectationJson.{outcome_keyword, breach_keyword, outcome_breach_keyword, breach_session_number, outcome_session_number, observation_keyword, listed_sides, side_list_text, observation_detail_fields, breach_detail_fields, outcome_detail_fields, expectation_fields, expectation_object};
 
 use crate::json_fields::{MAX_DETAILS, event_fields};
 use crate::link_fault::{link_fault_fields, link_fault_keyword};
-use crate::outcome::{Breach, ExpectationOutcome, NodeObservation};
-use crate::outcome_text::{push_sides, sides_of};
+use crate::outcome::{Breach, ExpectationOutcome};
 use arrayvec::ArrayVec;
+use ga_explorer_text::sides_of;
 use ga_json::{Field, RowFields, optional_number_field, row_fields, text_field, write_object};
-use ga_ports::PortSet;
-use ga_text::{TextBuffer, WriteResult, Writer, push_text};
+use ga_ports::{PortSet, Side};
+use ga_state_expectations::NodeObservation;
+use ga_text::{WriteResult, Writer};
 use std::io::Write;
 
 /// The words that name what is known of an expectation.
@@ -44,7 +44,7 @@ fn breach_keyword(breach: Breach) -> &'static [u8]
 }
 
 /// What a node holds or does, in a word.
-fn observation_keyword(observation: NodeObservation) -> &'static [u8]
+pub fn observation_keyword(observation: NodeObservation) -> &'static [u8]
     ensures { result.now ≡ observation_keyword observation }
 {
     match observation {
@@ -91,75 +91,60 @@ fn breach_session_number(number: u64, breach: Breach) -> Option<u64>
     }
 }
 
-/// The sides that a node awaits, with a blank between two.
-fn awaited_sides_of_outcome_text(outcome: ExpectationOutcome) -> TextBuffer
-    ensures { result.items ≡ awaited_sides_of_outcome_text outcome }
-{
-    match outcome {
-        ExpectationOutcome::Holds => ArrayVec::new(),
-        ExpectationOutcome::Broken(breach) => awaited_sides_of_breach_text(breach),
-        ExpectationOutcome::Unknown => ArrayVec::new(),
-    }
-}
-
-fn awaited_sides_of_breach_text(breach: Breach) -> TextBuffer
-    ensures { result.items ≡ awaited_sides_of_breach_text breach }
-{
-    match breach {
-        Breach::Unmet { observation, .. } => awaited_sides_of_observation_text(observation),
-        Breach::Reached(_) => ArrayVec::new(),
-        Breach::OverLink { .. } => ArrayVec::new(),
-        Breach::Endless => ArrayVec::new(),
-        Breach::SeveralEnds(_) => ArrayVec::new(),
-    }
-}
-
-fn awaited_sides_of_observation_text(observation: NodeObservation) -> TextBuffer
-    ensures { result.items ≡ awaited_sides_of_observation_text observation }
-{
-    match observation {
-        NodeObservation::Is(_) => ArrayVec::new(),
-        NodeObservation::Runs => ArrayVec::new(),
-        NodeObservation::AwaitsCode => ArrayVec::new(),
-        NodeObservation::Reads(sides) => side_list_text(sides),
-        NodeObservation::Writes(side) => side_list_text(sides_of(side)),
-        NodeObservation::Stopped(_) => ArrayVec::new(),
-    }
-}
-
 /// Sides with a blank between two.
-fn side_list_text(sides: PortSet) -> TextBuffer
-    ensures { result.items ≡ side_list_text sides }
+fn side_list_text(sides: PortSet) -> &'static [u8]
+    ensures { result.now ≡ side_list_text sides }
 {
-    let mut words = ArrayVec::new();
-    push_sides(&mut words, sides);
-    let mut out = ArrayVec::new();
-    if let Some((_, text)) = words.as_slice().split_first() {
-        push_text(&mut out, text);
-    }
-    out
+    listed_sides(
+        sides.has(Side::Right),
+        sides.has(Side::Down),
+        sides.has(Side::Left),
+        sides.has(Side::Up),
+    )
 }
 
-/// The fields of what breaks an expectation, if it is broken; the node awaits these sides.
-fn outcome_fields<'a>(outcome: ExpectationOutcome, sides: &'a [u8]) -> RowFields<'a>
-    requires { sides.now ≡ awaited_sides_of_outcome_text outcome }
+/// Those of the sides right, down, left and up that are meant.
+fn listed_sides(right: bool, down: bool, left: bool, up: bool) -> &'static [u8]
+    ensures { result.now ≡ listed_sides right down left up }
+{
+    match (right, down, left, up) {
+        (false, false, false, false) => b"",
+        (false, false, false, true) => b"up",
+        (false, false, true, false) => b"left",
+        (false, false, true, true) => b"left up",
+        (false, true, false, false) => b"down",
+        (false, true, false, true) => b"down up",
+        (false, true, true, false) => b"down left",
+        (false, true, true, true) => b"down left up",
+        (true, false, false, false) => b"right",
+        (true, false, false, true) => b"right up",
+        (true, false, true, false) => b"right left",
+        (true, false, true, true) => b"right left up",
+        (true, true, false, false) => b"right down",
+        (true, true, false, true) => b"right down up",
+        (true, true, true, false) => b"right down left",
+        (true, true, true, true) => b"right down left up",
+    }
+}
+
+/// The fields of what breaks an expectation, if it is broken.
+fn outcome_fields<'a>(outcome: ExpectationOutcome) -> RowFields<'a>
     ensures details { map named_field_value result.items ≡ outcome_detail_fields outcome }
     ensures few { array_vec_len result ≤ MAX_DETAILS }
 {
     match outcome {
         ExpectationOutcome::Holds => ArrayVec::new(),
-        ExpectationOutcome::Broken(breach) => breach_fields(breach, sides),
+        ExpectationOutcome::Broken(breach) => breach_fields(breach),
         ExpectationOutcome::Unknown => ArrayVec::new(),
     }
 }
 
-fn breach_fields<'a>(breach: Breach, sides: &'a [u8]) -> RowFields<'a>
-    requires { sides.now ≡ awaited_sides_of_breach_text breach }
+fn breach_fields<'a>(breach: Breach) -> RowFields<'a>
     ensures details { map named_field_value result.items ≡ breach_detail_fields breach }
     ensures few { array_vec_len result ≤ MAX_DETAILS }
 {
     match breach {
-        Breach::Unmet { observation, .. } => observation_fields(observation, sides),
+        Breach::Unmet { observation, .. } => observation_fields(observation),
         Breach::Reached(made) => event_fields(made),
         Breach::OverLink { place, fault } => link_fault_fields(place, fault),
         Breach::Endless => ArrayVec::new(),
@@ -167,8 +152,8 @@ fn breach_fields<'a>(breach: Breach, sides: &'a [u8]) -> RowFields<'a>
     }
 }
 
-fn observation_fields<'a>(observation: NodeObservation, sides: &'a [u8]) -> RowFields<'a>
-    requires { sides.now ≡ awaited_sides_of_observation_text observation }
+/// What a node holds or does, or on which sides it waits.
+pub fn observation_fields<'a>(observation: NodeObservation) -> RowFields<'a>
     ensures details { map named_field_value result.items ≡ observation_detail_fields observation }
     ensures few { array_vec_len result ≤ MAX_DETAILS }
 {
@@ -176,8 +161,12 @@ fn observation_fields<'a>(observation: NodeObservation, sides: &'a [u8]) -> RowF
         NodeObservation::Is(word) => row_fields(&[Field::word(b"value", word)]),
         NodeObservation::Runs => ArrayVec::new(),
         NodeObservation::AwaitsCode => ArrayVec::new(),
-        NodeObservation::Reads(_) => row_fields(&[Field::text(b"sides", sides)]),
-        NodeObservation::Writes(_) => row_fields(&[Field::text(b"sides", sides)]),
+        NodeObservation::Reads(sides) => {
+            row_fields(&[Field::text(b"sides", side_list_text(sides))])
+        }
+        NodeObservation::Writes(side) => {
+            row_fields(&[Field::text(b"sides", side_list_text(sides_of(side)))])
+        }
         NodeObservation::Stopped(stop) => row_fields(&[Field::number(b"stop", u64::from(stop))]),
     }
 }
@@ -196,52 +185,22 @@ pub(crate) fn write_expectation_object<'a, W: Write>(
 ) -> WriteResult
     ensures { WritesExactly result (json_line (expectation_object file.now number line words.now outcome)) W.contents writer.old writer.new }
 {
-    let sides = awaited_sides_of_outcome_text(outcome);
-    write_with_sides(
-        file,
-        number,
-        line,
-        words,
-        &outcome,
-        sides.as_slice(),
-        writer,
-    )
-}
-
-/// Writes the object of an expectation; the node awaits these sides.
-///
-/// # Errors
-/// A write failed.
-fn write_with_sides<'a, W: Write>(
-    file: &'a [u8],
-    number: usize,
-    line: u32,
-    words: &'a [u8],
-    outcome: &ExpectationOutcome,
-    sides: &'a [u8],
-    writer: &mut Writer<'_, W>,
-) -> WriteResult
-    requires { sides.now ≡ awaited_sides_of_outcome_text outcome.now }
-    ensures { WritesExactly result (json_line (expectation_object file.now number line words.now outcome.now)) W.contents writer.old writer.new }
-{
-    let fields = object_fields(file, number as u64, line, words, outcome, sides);
+    let fields = object_fields(file, number as u64, line, words, &outcome);
     write_object(fields.as_slice(), writer)
 }
 
-/// The fields of the object of an expectation; the node awaits these sides.
+/// The fields of the object of an expectation.
 fn object_fields<'a>(
     file: &'a [u8],
     number: u64,
     line: u32,
     words: &'a [u8],
     outcome: &ExpectationOutcome,
-    sides: &'a [u8],
 ) -> RowFields<'a>
-    requires { sides.now ≡ awaited_sides_of_outcome_text outcome.now }
     ensures { map named_field_value result.items ≡ expectation_fields file.now number line words.now outcome.now ++ outcome_detail_fields outcome.now }
 {
     let mut fields = expectation_fields(file, number, line, words, outcome);
-    let details = outcome_fields(*outcome, sides);
+    let details = outcome_fields(*outcome);
     let _fits = fields.try_extend_from_slice(details.as_slice());
     fields
 }

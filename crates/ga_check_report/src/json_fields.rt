@@ -18,7 +18,7 @@ use ga_state_search::SearchFault;
 use ga_word::Word18;
 
 /// The most fields of an event, or of what else breaks an expectation.
-pub(crate) const MAX_DETAILS: usize = 6;
+pub const MAX_DETAILS: usize = 6;
 
 /// The fields of an event: what it was, and its steps.
 pub(crate) fn event_fields<'a>(made: MadeEvent) -> RowFields<'a>

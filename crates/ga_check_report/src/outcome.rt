@@ -6,26 +6,8 @@ ghost use Rattle.ga_check_report.specs.Outcomes.{is_outcome_broken, is_outcome_u
 
 use crate::report::Verdict;
 use ga_lab::MadeEvent;
-use ga_ports::{PortSet, Side};
+use ga_state_expectations::NodeObservation;
 use ga_state_links::LinkFault;
-use ga_word::Word18;
-
-/// What a node holds or does at one moment.
-#[derive(Clone, Copy, PartialEq, Eq, Debug)]
-pub(crate) enum NodeObservation {
-    /// A value of it is this word.
-    Is(Word18),
-    /// It neither waits nor is stopped.
-    Runs,
-    /// It waits for code.
-    AwaitsCode,
-    /// It waits to read a word from these sides.
-    Reads(PortSet),
-    /// It waits to write a word to this side.
-    Writes(Side),
-    /// It is stopped, by the stop of this number.
-    Stopped(u8),
-}
 
 /// What breaks an expectation.
 #[derive(Clone, Copy, PartialEq, Eq, Debug)]

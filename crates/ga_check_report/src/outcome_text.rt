@@ -1,92 +1,24 @@
 //! The line of an expectation, and what is known of it.
 
-ghost use Rattle.std.specs.Prelude.{◌≡◌, ◌≤◌, ◌+◌, ◌++◌, length, codes, decimal};
+ghost use Rattle.std.specs.Prelude.{◌≡◌, ◌≤◌, ◌+◌, ◌++◌, codes, decimal};
 ghost use Rattle.arrayvec.specs.ArrayVec.{array_vec_len};
 ghost use Rattle.ga_text.specs.Output.{WritesExactly};
-ghost use Rattle.ga_ports.specs.Address.{single_side_set};
-ghost use Rattle.ga_check_report.specs.ExpectationTexts.{optional_side_text, side_names_after_blanks, observation_text, session_option_text, breach_text, outcome_text, expectation_line_start, expectation_line, expectations_header, no_such_expectation_text};
+ghost use Rattle.ga_check_report.specs.ExpectationTexts.{session_option_text, breach_text, outcome_text, expectation_line, expectations_header, no_such_expectation_text};
 
 use crate::decision_text::{MADE_ROOM, push_made};
 use crate::ends_text::{at_least_text, push_counted};
-use crate::link_fault::push_link_fault;
-use crate::outcome::{Breach, ExpectationOutcome, NodeObservation};
+use crate::outcome::{Breach, ExpectationOutcome};
 use arrayvec::ArrayVec;
-use ga_ports::{PortSet, Side};
+use ga_explorer_text::{expectation_line_start, push_link_fault, push_observation};
 use ga_state_expectations::LineExpectation;
-use ga_text::{
-    MAX_NUMBER_DIGITS, TextBuffer, WriteResult, Writer, push_number, push_spaced_word, push_text,
-};
+use ga_text::{MAX_NUMBER_DIGITS, TextBuffer, WriteResult, Writer, push_number, push_text};
 use std::io::Write;
-
-/// The maximum number of bytes of sides.
-const SIDES_ROOM: usize = b" right down left up".len();
-
-/// The maximum number of bytes of what a node holds or does.
-const OBSERVATION_ROOM: usize = b"waits to write".len() + SIDES_ROOM;
 
 /// The maximum number of bytes of the option that writes a session.
 const OPTION_ROOM: usize = b": --session ".len() + MAX_NUMBER_DIGITS;
 
 /// The maximum number of bytes of what breaks an expectation.
 const BREACH_ROOM: usize = MADE_ROOM + OPTION_ROOM;
-
-/// Adds a blank and a side, if the set has it.
-fn push_side_if(out: &mut TextBuffer, is_there: bool, name: &[u8])
-    requires { array_vec_len out.old + length name.now ≤ 256 }
-    ensures text { out.new.items ≡ out.old.items ++ optional_side_text is_there name.now }
-    ensures len { array_vec_len out.new ≤ array_vec_len out.old + length name.now }
-{
-    if is_there {
-        push_text(out, name);
-    }
-}
-
-/// Adds sides, each after a blank.
-pub(crate) fn push_sides(out: &mut TextBuffer, sides: PortSet)
-    requires { array_vec_len out.old + SIDES_ROOM ≤ 256 }
-    ensures text { out.new.items ≡ out.old.items ++ side_names_after_blanks sides }
-    ensures len { array_vec_len out.new ≤ array_vec_len out.old + SIDES_ROOM }
-{
-    push_side_if(out, sides.has(Side::Right), b" right");
-    push_side_if(out, sides.has(Side::Down), b" down");
-    push_side_if(out, sides.has(Side::Left), b" left");
-    push_side_if(out, sides.has(Side::Up), b" up");
-}
-
-/// The sides that are one.
-pub(crate) fn sides_of(side: Side) -> PortSet
-    ensures { result ≡ single_side_set side }
-{
-    PortSet::from_bits(side.bit_in_set())
-}
-
-/// Adds what a node holds or does.
-fn push_observation(out: &mut TextBuffer, observation: NodeObservation)
-    requires { array_vec_len out.old + OBSERVATION_ROOM ≤ 256 }
-    ensures text { out.new.items ≡ out.old.items ++ observation_text observation }
-    ensures len { array_vec_len out.new ≤ array_vec_len out.old + OBSERVATION_ROOM }
-{
-    match observation {
-        NodeObservation::Is(word) => {
-            push_text(out, b"is");
-            push_spaced_word(out, word);
-        }
-        NodeObservation::Runs => push_text(out, b"runs"),
-        NodeObservation::AwaitsCode => push_text(out, b"waits for code"),
-        NodeObservation::Reads(sides) => {
-            push_text(out, b"waits to read");
-            push_sides(out, sides);
-        }
-        NodeObservation::Writes(side) => {
-            push_text(out, b"waits to write");
-            push_sides(out, sides_of(side));
-        }
-        NodeObservation::Stopped(stop) => {
-            push_text(out, b"stop ");
-            push_number(out, u64::from(stop));
-        }
-    }
-}
 
 /// Adds the option that writes the session of the expectation with this number.
 fn push_session_option(out: &mut TextBuffer, number: usize)
@@ -141,17 +73,6 @@ pub(crate) fn outcome_text(whole: bool, number: usize, outcome: ExpectationOutco
         }
         ExpectationOutcome::Unknown => push_text(&mut out, b"not known\n"),
     }
-    out
-}
-
-/// What comes before the words of an expectation.
-fn expectation_line_start(line: u32) -> TextBuffer
-    ensures { result.items ≡ expectation_line_start line }
-{
-    let mut out = ArrayVec::new();
-    push_text(&mut out, b"line ");
-    push_number(&mut out, u64::from(line));
-    push_text(&mut out, b": ");
     out
 }
 

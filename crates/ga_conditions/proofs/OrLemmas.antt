@@ -7,7 +7,7 @@ use Rattle.std.proofs.lemmas.Grind.{take-set_at}
 use Rattle.ga_debug_info.specs.declared.notes.DebugInfo.{DebugInfo}
 use Rattle.ga_scheduler.specs.declared.condition.Condition.{Condition}
 use Rattle.ga_scheduler.specs.declared.condition.Condition.TheVariants.{Never}
-use Rattle.ga_conditions.specs.Conditions.{text_after_or_keyword, first_or_keyword_split, split_at_or_keyword, split_first_condition, parsed_run_condition, prepend_conditions, prepend_condition, remaining_conditions, conditions_from_split, parsed_conditions_within}
+use Rattle.ga_conditions.specs.Conditions.{text_after_or_keyword, first_or_keyword_split, split_at_or_keyword, split_first_condition, parsed_condition, prepend_conditions, prepend_condition, remaining_conditions, conditions_from_split, parsed_conditions_within}
 use Rattle.ga_text.specs.Parsing.{parts_with_prepended_byte}
 
 pub at_or : (text : List ℕ) (i : ℕ) (rest : List ℕ) → i < length text → ((k : ℕ) → k < i → text_after_or_keyword (drop k text) ≡ None) → text_after_or_keyword (drop i text) ≡ Some rest
@@ -51,7 +51,7 @@ within_more notes place left l =
     ap (λ (z : ℕ). parsed_conditions_within notes z left) e
 
 read_one : (notes : Option DebugInfo) (text : List ℕ) (xs : List Condition) (place : ℕ) (left : List ℕ) (one : Condition) (others : Option (List ℕ)) → place < 8 → length xs ≡ 8
-    → IsGiven notes text xs place left → parsed_run_condition notes (split_first_condition left).0 ≡ Some one → (split_first_condition left).1 ≡ others
+    → IsGiven notes text xs place left → parsed_condition notes (split_first_condition left).0 ≡ Some one → (split_first_condition left).1 ≡ others
     → parsed_conditions_within notes 8 text ≡ prepend_conditions (take (place + 1) (set xs place one)) (remaining_conditions (8 - (place + 1)) (parsed_conditions_within notes (8 - (place + 1))) others)
 read_one notes text xs place left one others l size given is rest =
     given ∙ ap (prepend_conditions (take place xs)) (within_more notes place left l
@@ -61,7 +61,7 @@ read_one notes text xs place left one others l size given is rest =
     ∙ ap (λ z. prepend_conditions z (remaining_conditions (8 - (place + 1)) (parsed_conditions_within notes (8 - (place + 1))) others)) (sym (take-set_at xs place (place + 1) one refl (omega arith)))
 
 pub given_more : (notes : Option DebugInfo) (text : List ℕ) (xs : List Condition) (place : ℕ) (left : List ℕ) (one : Condition) (more : List ℕ) → place < 8 → length xs ≡ 8
-    → IsGiven notes text xs place left → parsed_run_condition notes (split_first_condition left).0 ≡ Some one → (split_first_condition left).1 ≡ Some more
+    → IsGiven notes text xs place left → parsed_condition notes (split_first_condition left).0 ≡ Some one → (split_first_condition left).1 ≡ Some more
     → IsGiven notes text (set xs place one) (place + 1) more
 given_more notes text xs place left one more l size given is rest = read_one notes text xs place left one (Some more) l size given is rest
 
@@ -76,14 +76,14 @@ pub left_more : (xs : List Condition) (place : ℕ) (one : Condition) → place 
 left_more xs place one l size left = drop-set-lt (place + 1) xs place one (omega arith) ∙ left_behind xs place l size left
 
 pub all_given : (notes : Option DebugInfo) (text : List ℕ) (xs : List Condition) (place : ℕ) (left : List ℕ) (one : Condition) → place < 8 → length xs ≡ 8
-    → IsGiven notes text xs place left → IsLeft xs place → parsed_run_condition notes (split_first_condition left).0 ≡ Some one → (split_first_condition left).1 ≡ None
+    → IsGiven notes text xs place left → IsLeft xs place → parsed_condition notes (split_first_condition left).0 ≡ Some one → (split_first_condition left).1 ≡ None
     → parsed_conditions_within notes 8 text ≡ Some (set xs place one)
 all_given notes text xs place left one l size given rest is none =
     read_one notes text xs place left one None l size given is none
     ∙ ap Some (ap (λ z. take (place + 1) (set xs place one) ++ z) (sym (left_more xs place one l size rest)) ∙ take-append-drop (place + 1) (set xs place one))
 
 pub none_given : (notes : Option DebugInfo) (text : List ℕ) (xs : List Condition) (place : ℕ) (left : List ℕ) → place < 8
-    → IsGiven notes text xs place left → parsed_run_condition notes (split_first_condition left).0 ≡ None → parsed_conditions_within notes 8 text ≡ None
+    → IsGiven notes text xs place left → parsed_condition notes (split_first_condition left).0 ≡ None → parsed_conditions_within notes 8 text ≡ None
 none_given notes text xs place left l given is =
     given ∙ ap (prepend_conditions (take place xs)) (within_more notes place left l
     ∙ ap (λ o. prepend_condition o (remaining_conditions (8 - (place + 1)) (parsed_conditions_within notes (8 - (place + 1))) (split_first_condition left).1)) is)

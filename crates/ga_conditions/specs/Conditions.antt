@@ -12,7 +12,7 @@ use Rattle.ga_scheduler.specs.declared.value_test.NodeValue.TheVariants.{P, Cell
 use Rattle.ga_scheduler.specs.declared.value_test.Comparison.TheVariants.{Equal}
 use Rattle.ga_scheduler.specs.declared.value_test.ValueTest.{ValueTest}
 use Rattle.ga_scheduler.specs.declared.condition.Condition.{Condition}
-use Rattle.ga_scheduler.specs.declared.condition.Condition.TheVariants.{Never, PassesWord, PassesNthWord, MakesNumberedStep, AnyNodeStops, GivenNodeStops, GivenNodeWaits, HoldsPlaceValue, ReachesAddress, WritesRamCell as WritesTo}
+use Rattle.ga_scheduler.specs.declared.condition.Condition.TheVariants.{Never, PassesWord, PassesNthWord, MakesNumberedStep, AnyNodeStops, GivenNodeStops, GivenNodeWaits, HoldsPlaceValue, ReachesAddress, WritesRamCell as WritesTo, Broken}
 use Rattle.ga_debug_info.specs.declared.notes.DebugInfo.{DebugInfo}
 use Rattle.ga_debug_info.specs.declared.notes.LabelAddress.{LabelAddress}
 use Rattle.ga_debug_info.specs.Notes.{line_address, label_address_of_node}
@@ -208,6 +208,10 @@ split_first_condition text = first_condition_and_rest (split_at_or_keyword text)
 abbrev pub condition_limit : ℕ
 condition_limit = 8
 
+-- the condition of a run or of a search back: that an expectation is broken, or one of an event
+unfoldable pub parsed_condition : Option DebugInfo → Line → Option Condition
+parsed_condition notes text = if pointwise nat_eq text (codes "broken") then Some Broken else parsed_run_condition notes text
+
 -- some conditions in front of others
 abbrev pub prepend_conditions : List Condition → Option (List Condition) → Option (List Condition)
 prepend_conditions front others = option_map (λ more. front ++ more) others
@@ -222,7 +226,7 @@ remaining_conditions more others None = Some (replicate more Never)
 remaining_conditions more others (Some text) = others text
 
 abbrev pub conditions_from_split : Option DebugInfo → ℕ → (Line → Option (List Condition)) → Line × Option Line → Option (List Condition)
-conditions_from_split notes more others parts = prepend_condition (parsed_run_condition notes parts.0) (remaining_conditions more others parts.1)
+conditions_from_split notes more others parts = prepend_condition (parsed_condition notes parts.0) (remaining_conditions more others parts.1)
 
 -- conditions with ` or ` between them, for a number of places
 unfoldable pub parsed_conditions_within : Option DebugInfo → ℕ → Line → Option (List Condition)

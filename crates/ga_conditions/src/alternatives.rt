@@ -1,7 +1,7 @@
 //! Some conditions with `or` between them, as text.
 
 ghost use Rattle.std.specs.Prelude.{◌≡◌, ◌≤◌, length, drop, if◌then◌else◌, IsTrue, Some, None, option_map};
-ghost use Rattle.ga_conditions.specs.Conditions.{text_after_or_keyword, split_at_or_keyword, split_first_condition, parsed_run_conditions, never_holding_conditions, parsed_until_conditions};
+ghost use Rattle.ga_conditions.specs.Conditions.{text_after_or_keyword, split_at_or_keyword, split_first_condition, parsed_condition, parsed_run_conditions, never_holding_conditions, parsed_until_conditions};
 
 use crate::condition::parse_run_condition;
 use ga_debug_info::DebugInfo;
@@ -55,6 +55,18 @@ pub fn split_first_condition(text: &[u8]) -> (&[u8], Option<&[u8]>)
     }
 }
 
+/// The condition that a text spells, of a run or of a search back; or none.
+#[tactic(auto, unfolding(crate::specs::Conditions::parsed_condition))]
+fn parse_condition(notes: &Option<DebugInfo>, text: &[u8]) -> Option<Condition>
+    ensures { result ≡ parsed_condition notes.now text.now }
+{
+    if text == b"broken".as_slice() {
+        Some(Condition::Broken)
+    } else {
+        parse_run_condition(notes, text)
+    }
+}
+
 /// The conditions of a text, at most as many as a run watches; or none.
 pub fn parse_conditions(notes: &Option<DebugInfo>, text: &[u8]) -> Option<RunConditions>
     ensures { result ≡ parsed_run_conditions notes.now text.now }
@@ -63,7 +75,7 @@ pub fn parse_conditions(notes: &Option<DebugInfo>, text: &[u8]) -> Option<RunCon
     let mut left = text;
     for place in 0..MAX_CONDITIONS {
         let (first, others) = split_first_condition(left);
-        conditions[place] = parse_run_condition(notes, first)?;
+        conditions[place] = parse_condition(notes, first)?;
         left = match others {
             Some(others) => others,
             None => return Some(conditions),

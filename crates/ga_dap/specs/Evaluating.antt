@@ -21,7 +21,7 @@ use Rattle.ga_dap_queries.specs.Events.{IsFirstThreadNode}
 use Rattle.ga_dap_queries.specs.Readings.{TellsIfNodeIsDeadlocked}
 use Rattle.ga_dap_queries.specs.Sending.{Messages, success_response, refused_response}
 use Rattle.ga_dap_control.specs.Configuring.{AreNodesWithThreads}
-use Rattle.ga_dap.specs.Opening.{program_explorer_state}
+use Rattle.ga_explorer.specs.Opening.{explorer_state}
 use Rattle.ga_dap.specs.Telling.{AreMachineChangeMessages, is_change_command_done}
 
 -- the node of an expression: that of the frame, otherwise the first that has something to show
@@ -39,7 +39,7 @@ IsDenotedVariable expression (Some one) = DenotesVariable expression one
 
 -- a command is answered as exploring answers it, and the machine is what it is then; or it would end the session, and the machine stays
 abbrev pub ExecutesConsoleCommand : Debuggee → Text → Debuggee → Option Text → Type 0
-ExecutesConsoleCommand p line new (Some answer) = (new ≡ record p { lab = new.lab }) × AnswersExplorerLine (program_explorer_state p.lab p.source) line answer (program_explorer_state new.lab p.source)
+ExecutesConsoleCommand p line new (Some answer) = (new ≡ record p { lab = new.lab }) × AnswersExplorerLine (explorer_state p.lab p.source) line answer (explorer_state new.lab p.source)
     × (line ≢ quit_line)
 ExecutesConsoleCommand p line new None = (new ≡ p) × (line ≡ quit_line)
 

@@ -12,17 +12,13 @@ use Rattle.ga_source.specs.Made.{IsPlainSource}
 use Rattle.ga_state_expectations.specs.declared.cause.ExpectationFault.{ExpectationFault}
 use Rattle.ga_state_expectations.specs.Sources.{HasFaultyExpectations}
 use Rattle.ga_text.specs.Lines.{Bytes, lines_of_text}
-use Rattle.ga_explorer.specs.Opening.{ExplorerState, begins_as_image, OpensSource}
+use Rattle.ga_explorer.specs.Opening.{explorer_state, begins_as_image, OpensSource}
 use Rattle.ga_dap_queries.specs.declared.debuggee.Debuggee.{Debuggee}
-
--- what is explored of a program
-abbrev pub program_explorer_state : MachineState → Option DebugInfo → ExplorerState
-program_explorer_state lab notes = record { lab = lab; notes = notes }
 
 -- a text is opened as this machine, with debug info if it is source
 abbrev pub OpensTextAsProgram : Bytes → ℕ → MachineState → Option DebugInfo → Type 0
 OpensTextAsProgram text limit lab source = ((begins_as_image text ≡ true) × OpensImage text limit lab × (source ≡ None))
-    ⊎ ((begins_as_image text ≡ false) × OpensSource text limit (program_explorer_state lab source))
+    ⊎ ((begins_as_image text ≡ false) × OpensSource text limit (explorer_state lab source))
 
 -- a text is opened as a program
 abbrev pub OpensProgram : Bytes → ℕ → Debuggee → Type 0

@@ -10,8 +10,8 @@ ghost use Rattle.ga_parser.specs.declared.fault.SourceFaultCause.TheVariants.{Me
 ghost use Rattle.ga_text.specs.Lines.{lines_of_text};
 ghost use Rattle.ga_lab.specs.Machine.{initial_state};
 ghost use Rattle.ga_console.specs.Run.{IsOpenedOnImage as OpensImage};
-ghost use Rattle.ga_explorer.specs.Opening.{begins_as_image, OpensSource};
-ghost use Rattle.ga_dap.specs.Opening.{OpensProgram, OpensTextAsProgram, IsRefusedProgramText, IsRefusedSource, AreProgramNodes, AreNodesOfSource, program_explorer_state};
+ghost use Rattle.ga_explorer.specs.Opening.{explorer_state, begins_as_image, OpensSource};
+ghost use Rattle.ga_dap.specs.Opening.{OpensProgram, OpensTextAsProgram, IsRefusedProgramText, IsRefusedSource, AreProgramNodes, AreNodesOfSource};
 ghost use Rattle.ga_dap.specs.inner.Unopened.{HoldsIfLaunchTextFault};
 
 use ga_console::{open_lab_from_image, write_image_refusal};
@@ -182,7 +182,7 @@ fn told(alloc: Global, text: &[u8]) -> LaunchError {
 
 /// What a source is opened as, unless what it expects of its programs has a fault.
 fn accepted_contents(alloc: Global, source: &[u8], limit: u32) -> Result<Contents, LaunchError>
-    ensures ok { IfOk result (λ c. OpensSource source.now limit (program_explorer_state c.lab c.source)) }
+    ensures ok { IfOk result (λ c. OpensSource source.now limit (explorer_state c.lab c.source)) }
     ensures nodes { IfOk result (λ c. AreNodesOfSource source.now c.nodes.items) }
     ensures err { IfErr result (λ why. HoldsIfLaunchTextFault why (IsRefusedSource source.now)) }
 {
@@ -202,7 +202,7 @@ fn faults_told(alloc: Global, faults: &[ExpectationFault]) -> LaunchError {
 }
 
 fn source_contents(alloc: Global, source: &[u8], limit: u32) -> Result<Contents, LaunchError>
-    ensures ok { IfOk result (λ c. OpensSource source.now limit (program_explorer_state c.lab c.source)) }
+    ensures ok { IfOk result (λ c. OpensSource source.now limit (explorer_state c.lab c.source)) }
     ensures nodes { IfOk result (λ c. AreNodesOfSource source.now c.nodes.items) }
     ensures err { IfErr result (λ why. HoldsIfLaunchTextFault why (IsPlainSource source.now → ⊥)) }
 {

@@ -16,7 +16,7 @@ use Rattle.ga_console.specs.declared.command.DebuggerCommand.TheVariants.{Step, 
 use Rattle.ga_explorer.specs.Answers.{AnswersExplorerLine, AnswersNonExplorerLine}
 use Rattle.ga_explorer.specs.Answers.AnswersExplorerLine.{explored, debugged}
 use Rattle.ga_explorer.specs.Classes.{command_class_of_name, command_class_of_line, class_of_explorer_command, class_of_debugger_command}
-use Rattle.ga_explorer.specs.Commands.{explorer_command_of_line, explorer_command_of_split_line, single_word_command, query_without_arguments, command_with_arguments, query_with_arguments, command_table, AnswersExplorerCommand}
+use Rattle.ga_explorer.specs.Commands.{explorer_command_of_line, explorer_command_of_split_line, single_word_command, text_query_of_word, query_without_arguments, command_with_arguments, query_with_arguments, command_table, AnswersExplorerCommand}
 use Rattle.ga_explorer.specs.Forms.{command_index_from_place}
 use Rattle.ga_explorer.specs.NoCommand.{command_word}
 use Rattle.ga_explorer.specs.Opening.{ExplorerState}
@@ -24,7 +24,9 @@ use Rattle.ga_explorer.specs.Reading.{parse_run_arguments, parse_back_arguments}
 use Rattle.ga_explorer.specs.declared.commands.ExplorerCommand.{ExplorerCommand}
 use Rattle.ga_explorer.specs.declared.commands.ExplorerCommand.TheVariants as command
 use Rattle.ga_explorer.specs.declared.changes.Change.{Change}
+use Rattle.ga_explorer.specs.declared.command_table.TextQuery.{TextQuery}
 use Rattle.ga_explorer.specs.declared.commands.Query.{Query as Question}
+use Rattle.ga_explorer.specs.declared.commands.Query.TheVariants as question
 use Rattle.ga_explorer.specs.declared.forms.CommandClass.TheVariants as class
 use Rattle.ga_explorer.proofs.LineAnswers.{same_explored}
 
@@ -47,9 +49,21 @@ query_if name word found others of later = by_test (pointwise nat_eq name word) 
   by_test true is = any_query name found (ap command_class_of_name (is refl) ∙ of)
   by_test false is = later
 
+-- the same, of a query that only a text answers
+text_query_if : (name word : List ℕ) (found others : Option TextQuery) → command_class_of_name word ≡ Some class.Query → IsQueryRow name (option_map question.Text others)
+    → IsQueryRow name (option_map question.Text (if pointwise nat_eq name word then found else others))
+text_query_if name word found others of later = by_test (pointwise nat_eq name word) (bytes_eq-Decides name word).0 where
+  by_test : (b : Bool) → (b ≡ true → name ≡ word) → IsQueryRow name (option_map question.Text (if b then found else others))
+  by_test true is = any_query name (option_map question.Text found) (ap command_class_of_name (is refl) ∙ of)
+  by_test false is = later
+
+text_query : (name : List ℕ) → IsQueryRow name (option_map question.Text (text_query_of_word name))
+unfolding text_query_of_word command_table command_index_from_place
+text_query name = search (rules, text_query_if)
+
 bare : (name : List ℕ) → IsQueryRow name (query_without_arguments name)
 unfolding query_without_arguments command_table command_index_from_place
-bare name = search (rules, query_if)
+bare name = search (rules, query_if, text_query)
 
 with_arguments : (name text : List ℕ) → IsQueryRow name (query_with_arguments name text)
 unfolding query_with_arguments command_table command_index_from_place

@@ -6,7 +6,7 @@ use Rattle.ga_console.specs.Commands.{SpellsCommand}
 use Rattle.ga_console.specs.declared.command.DebuggerCommand.{DebuggerCommand}
 use Rattle.ga_console.specs.declared.command.DebuggerCommand.TheVariants.{Step, Back, Rewind, Node, Memory, Trace, Why, Count, Dump, Quit}
 use Rattle.ga_debug_info.specs.declared.notes.DebugInfo.{DebugInfo}
-use Rattle.ga_explorer.specs.Commands.{explorer_command_of_line, single_word_command, query_without_arguments, command_with_arguments, query_with_arguments, AnswersExplorerCommand}
+use Rattle.ga_explorer.specs.Commands.{explorer_command_of_line, single_word_command, text_query_of_word, query_without_arguments, command_with_arguments, query_with_arguments, AnswersExplorerCommand}
 use Rattle.std.specs.Result.{IsErr}
 use Rattle.std.proofs.lemmas.List.{take_all}
 use Rattle.ga_display.specs.declared.wording.RefusalWording.TheVariants.{Advised}
@@ -15,8 +15,7 @@ use Rattle.ga_console.specs.Session.{quit_line, AnswersOrQuitsLine, AnswersLine}
 use Rattle.ga_lab.specs.Machine.{MachineState}
 use Rattle.ga_text.specs.declared.output.WriteError.{WriteError}
 use Rattle.ga_console.specs.declared.responder.LineAction.{LineAction}
-use Rattle.ga_explorer.specs.Opening.{ExplorerState}
-use Rattle.ga_explorer.specs.inner.{explorer_state}
+use Rattle.ga_explorer.specs.Opening.{ExplorerState, explorer_state}
 use Rattle.ga_explorer.specs.Answers.{AnswersExplorerLine, AnswersNonExplorerLine, IsDebuggerLine}
 use Rattle.ga_explorer.specs.NoCommand.{unknown_command_text}
 use Rattle.ga_explorer.specs.Answers.AnswersExplorerLine.{explored, debugged}
@@ -25,7 +24,7 @@ use Rattle.ga_explorer.specs.declared.commands.ExplorerCommand.{ExplorerCommand}
 -- ---- A line that spells a command of the debugger spells none of exploring
 
 pub debugger_alone : (notes : Option DebugInfo) (c : DebuggerCommand) (line : List ℕ) → SpellsCommand c line → explorer_command_of_line notes line ≡ None
-unfolding single_word_command query_without_arguments command_with_arguments query_with_arguments
+unfolding single_word_command text_query_of_word query_without_arguments command_with_arguments query_with_arguments
 debugger_alone notes (Step node) line is = rw is refl
 debugger_alone notes Back line is = rw is refl
 debugger_alone notes (Rewind node k) line is = rw is.1 refl

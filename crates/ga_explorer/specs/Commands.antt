@@ -10,6 +10,7 @@ use Rattle.ga_debug_info.specs.declared.notes.DebugInfo.{DebugInfo}
 use Rattle.ga_lab.specs.Machine.{MachineState}
 use Rattle.ga_explorer_text.specs.Texts.{link_words_text, chip_text}
 use Rattle.ga_explorer_text.specs.Effects.{IsRollbackEffectsAnswer}
+use Rattle.ga_explorer_text.specs.Expected.{IsExpectationsAnswer}
 use Rattle.ga_explorer_text.specs.Telling.{IsWaitingNodesAnswer}
 use Rattle.ga_explorer_text.specs.Saved.{saved_session_text}
 use Rattle.ga_explorer_text.specs.Writing.{cell_writes_answer_text}
@@ -29,15 +30,15 @@ use Rattle.ga_explorer.specs.declared.commands.ExplorerCommand.{ExplorerCommand}
 use Rattle.ga_explorer.specs.declared.commands.ExplorerCommand.TheVariants as asked
 use Rattle.ga_explorer.specs.declared.commands.Query.{Query}
 use Rattle.ga_explorer.specs.declared.commands.Query.TheVariants as told
-use Rattle.ga_explorer.specs.declared.commands.TextQuery.{TextQuery}
-use Rattle.ga_explorer.specs.declared.commands.TextQuery.TheVariants as plain
+use Rattle.ga_explorer.specs.declared.command_table.TextQuery.{TextQuery}
+use Rattle.ga_explorer.specs.declared.command_table.TextQuery.TheVariants as plain
 
 -- ---- what `help` says of them
 
 -- the commands of exploring and those of the debugger, in the order of `help`
 unfoldable pub command_table : List CommandEntry
 command_table =
-    entry_of_changing_command (codes "run") (codes "run [greedy|random SEED] [N] [until COND]") (codes "\n                      make up to N events, in rounds or in this order\nCOND: NNN VALUE OP N, pass NNN MMM OP N, pass NNN MMM J, step NNN K, stop, stop NNN,\n      wait NNN, mem NNN HH = N, p NNN X, reach NNN X, change NNN HH [= N], COND or COND\nVALUE: t s r p a b i, d2 to d9, r1 to r8, io, slot, carry, step, [HH]\nOP: = != < <= > >=   N: a number, a port, a label   X: an address, a label, line N\n") (codes "answers: reached M EVENT, made M, quiet M or full M: how many events, and why no more\nexample: run 1000 until stop or 001 t = 0x150\n")
+    entry_of_changing_command (codes "run") (codes "run [greedy|random SEED] [N] [until COND]") (codes "\n                      make up to N events, in rounds or in this order\nCOND: NNN VALUE OP N, pass NNN MMM OP N, pass NNN MMM J, step NNN K, stop, stop NNN,\n      wait NNN, mem NNN HH = N, p NNN X, reach NNN X, change NNN HH [= N], broken, COND or COND\nVALUE: t s r p a b i, d2 to d9, r1 to r8, io, slot, carry, step, [HH]\nOP: = != < <= > >=   N: a number, a port, a label   X: an address, a label, line N\n") (codes "answers: reached M EVENT, made M, quiet M or full M: how many events, and why no more\nexample: run 1000 until stop or 001 t = 0x150\n")
     ∷ entry_of_query_command (codes "chip") (codes "chip") (codes "                  what each node does\n") (codes "answers: rows 7 to 0 of nodes: . made no step, * runs, x stopped, @ waits for code, ? reads, ! writes\nexample: chip\n")
     ∷ entry_of_query_command (codes "who") (codes "who") (codes "                   who waits for whom, and which nodes can never go on\n") (codes "answers: for each that waits what it does, and the nodes that it awaits; then stuck, ring, ended and idle\nexample: who\n")
     ∷ entry_of_query_command (codes "effects") (codes "effects NNN K") (codes "         what rewind NNN K would remove\n") (codes "answers: effects X N, and for each of N nodes its first step that it would remove, and their number\nexample: effects 001 last\n")
@@ -47,6 +48,7 @@ command_table =
     ∷ entry_of_query_command (codes "whence") (codes "whence NNN K [VALUE] [from L]") (codes "\n                      the steps whose values went into what step K of NNN made, or\n                      into a register, a word of a stack or a cell as it is after step K\n") (codes "answers: the nearest 100, each with its number and > the number of the step that used its value\nexample: whence 001 last, or whence 001 last r\n")
     ∷ entry_of_query_command (codes "because") (codes "because NNN K [N]") (codes "     N steps before step K at which a value decided where NNN continued\nK of effects, at, whence, because: a step's number, or last\n") (codes "answers: for each the step and the word that it tested, and below it the step that made that word\nexample: because 001 last\n")
     ∷ entry_of_query_command (codes "races") (codes "races [NNN]") (codes "           steps that yield another word in another order, and how\n") (codes "answers: races N, and for each of N steps the other word, and two commands that lead there\nexample: races 001\n")
+    ∷ entry_of_query_command (codes "expectations") (codes "expectations") (codes "          how each line expect of the source stands\n") (codes "answers: for each whether it is held, broken and by what, or pending: it depends on what comes or on other orders\nexample: expectations\n")
     ∷ entry_of_query_command (codes "save") (codes "save") (codes "                  the history as lines of debug\n") (codes "answers: step NNN for each event, the oldest first\nexample: save\n")
     ∷ entry_of_query_command (codes "help") (codes "help [COMMAND]") (codes "        these lines, or more of one command\n") (codes "answers: the command's form and what it does, what it answers, and an example\nexample: help why\n")
     ∷ entry_of_changing_command (codes "step") (codes "step NNN") (codes "              make the next event of NNN\n") (codes "answers: NNN K and what the step did, or pass WWW K RRR J W: it moved the word W from WWW to RRR\nexample: step 001\n")
@@ -71,15 +73,21 @@ command_help_text place = optional_command_details_text (slice_get command_table
 
 -- ---- how a line spells one of exploring
 
+-- a query of one word that only a text answers
+unfoldable pub text_query_of_word : Line → Option TextQuery
+text_query_of_word name =
+    if pointwise nat_eq name (codes "chip") then Some plain.Chip
+    else if pointwise nat_eq name (codes "save") then Some plain.Save
+    else if pointwise nat_eq name (codes "help") then Some plain.Help
+    else None
+
 -- a command that changes nothing, of one word
 unfoldable pub query_without_arguments : Line → Option Query
 query_without_arguments name =
-    if pointwise nat_eq name (codes "who") then Some told.WaitingNodes
+    if pointwise nat_eq name (codes "expectations") then Some told.Expectations
+    else if pointwise nat_eq name (codes "who") then Some told.WaitingNodes
     else if pointwise nat_eq name (codes "races") then Some (told.Races None)
-    else if pointwise nat_eq name (codes "chip") then Some (told.Text plain.Chip)
-    else if pointwise nat_eq name (codes "save") then Some (told.Text plain.Save)
-    else if pointwise nat_eq name (codes "help") then Some (told.Text plain.Help)
-    else None
+    else option_map told.Text (text_query_of_word name)
 
 -- a query, of a word and what follows it
 unfoldable pub query_with_arguments : Line → Line → Option Query
@@ -152,11 +160,12 @@ AnswersQuery e (told.StepsAround node which around) answer = answer ≡ steps_ar
 AnswersQuery e (told.Whence node which value first) answer = IsValueOriginsAnswer e.notes e.lab node (selected_step_number e.lab node which) (option_and_then part_of_node_value value) first answer
 AnswersQuery e (told.Because node which most) answer = answer ≡ decisions_before_step_text e.notes e.lab node (selected_step_number e.lab node which) most
 AnswersQuery e (told.Races only) answer = IsRacesAnswer e.lab only answer
+AnswersQuery e told.Expectations answer = IsExpectationsAnswer e.notes e.lab answer
 AnswersQuery e told.WaitingNodes answer = IsWaitingNodesAnswer e.lab answer
 AnswersQuery e (told.Text query) answer = answer ≡ text_query_text e.lab query
 
 -- what is answered to a command of exploring, and what is explored then
 abbrev pub AnswersExplorerCommand : ExplorerState → ExplorerCommand → Text → ExplorerState → Type 0
 AnswersExplorerCommand e (asked.Change change) answer new =
-    (came : ChangeResult) × IsChangeResult e.lab change came new.lab × (answer ≡ change_result_text came) × (new.notes ≡ e.notes)
+    (came : ChangeResult) × IsChangeResult e change came new.lab × (answer ≡ change_result_text came) × (new.notes ≡ e.notes)
 AnswersExplorerCommand e (asked.AnswerQuery question) answer new = AnswersQuery e question answer × (new ≡ e)

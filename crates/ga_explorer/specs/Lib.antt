@@ -1,6 +1,7 @@
 pub mod Forms
 pub mod Reading
 pub mod Leading
+pub mod Expecting
 pub mod Changes
 pub mod Commands
 pub mod Classes

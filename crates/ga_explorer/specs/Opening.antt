@@ -29,6 +29,9 @@ pub record ExplorerState : Type 0 where
   pub lab : MachineState
   pub notes : Option DebugInfo
 
+abbrev pub explorer_state : MachineState → Option DebugInfo → ExplorerState
+explorer_state lab notes = record { lab = lab; notes = notes }
+
 -- the text is an image, and not source
 abbrev pub begins_as_image : Text → Bool
 begins_as_image text = bytes_eq (take 5 text) (codes "ga144")

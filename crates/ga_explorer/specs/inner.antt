@@ -1,7 +1,5 @@
 -- What only private contracts and proofs name.
 use Rattle.std.specs.Prelude.{codes, decimal, ◌++◌, if◌then◌else◌, take, Bool, Option, Some, None, ◌≡◌, ℕ, true, false, [], Result, Ok, Err}
-use Rattle.ga_lab.specs.Machine.{MachineState}
-use Rattle.ga_debug_info.specs.declared.notes.DebugInfo.{DebugInfo}
 use Rattle.ga_explorer.specs.Opening.{ExplorerState, begins_as_image, is_read_as_image, OpensTextBeforeCommands}
 use Rattle.ga_explorer.specs.Forms.{CommandEntry}
 use Rattle.ga_explorer.specs.declared.forms.Row.{Row}
@@ -20,11 +18,6 @@ use Rattle.ga_explorer.specs.Session.{AnswersWithPrompt, AnswersLineAndContinues
 use Rattle.ga_console.specs.declared.responder.LineAction.{LineAction}
 use Rattle.ga_console.specs.declared.responder.LineAction.TheVariants as turn
 use Rattle.ga_explorer.specs.declared.commands.Query.{Query}
-
--- ---- what is explored, of its two parts
-
-abbrev pub explorer_state : MachineState → Option DebugInfo → ExplorerState
-explorer_state lab notes = record { lab = lab; notes = notes }
 
 -- ---- A row of the code's table of commands
 

@@ -3,15 +3,19 @@
 ghost use Rattle.std.specs.Prelude.{◌≡◌};
 ghost use Rattle.ga_text.specs.Output.{WritesExactly};
 ghost use Rattle.ga_explorer.specs.Changes.{change_name, change_result_text, IsChangeResult};
+ghost use Rattle.ga_explorer.specs.Opening.{explorer_state};
 
+use crate::expecting::{
+    ExpectingRefusal, expecting_refusal_text, go_back_with_expectations, run_with_expectations,
+};
 use ga_conditions::RunConditions;
+use ga_debug_info::DebugInfo;
 use ga_explorer_text::{run_result_text, write_back_until_result};
 use ga_grid::NodeId;
 use ga_lab::Lab;
-use ga_scheduler::{
-    RunResult, Schedule, conditions_before_never, run_schedule, undo_until_condition,
-};
+use ga_scheduler::{RunResult, Schedule, conditions_before_never};
 use ga_text::{WriteResult, Writer};
+use std::alloc::Global;
 use std::io::Write;
 
 /// A command of exploring that changes the machine.
@@ -38,6 +42,8 @@ pub enum ChangeResult {
     RunEnded { ran: RunResult, conditions: usize },
     /// This many events were removed, if some were, and this many are kept.
     EventsRemoved { removed: Option<u32>, kept: u32 },
+    /// Nothing was done.
+    Refused(ExpectingRefusal),
 }
 
 impl Change {
@@ -51,9 +57,9 @@ impl Change {
         }
     }
 
-    /// Carries it out.
-    pub fn carry_out(self, lab: &mut Lab) -> ChangeResult
-        ensures { IsChangeResult lab.old self result lab.new }
+    /// Carries it out. Takes memory for the expectations of the source if `broken` is among its conditions.
+    pub fn carry_out(self, alloc: Global, lab: &mut Lab, notes: &Option<DebugInfo>) -> ChangeResult
+        ensures { IsChangeResult (explorer_state lab.old notes.now) self result lab.new }
     {
         match self {
             Change::Run {
@@ -62,16 +68,22 @@ impl Change {
                 until,
             } => {
                 let watched = conditions_before_never(&until);
-                ChangeResult::RunEnded {
-                    ran: run_schedule(lab, schedule, u64::from(most), watched),
-                    conditions: watched.len(),
+                match run_with_expectations(alloc, lab, notes, schedule, most, watched) {
+                    Ok(ran) => ChangeResult::RunEnded {
+                        ran,
+                        conditions: watched.len(),
+                    },
+                    Err(why) => ChangeResult::Refused(why),
                 }
             }
             Change::BackUntil { only, until } => {
-                let removed = undo_until_condition(lab, conditions_before_never(&until), only);
-                ChangeResult::EventsRemoved {
-                    removed,
-                    kept: lab.counts().kept,
+                let watched = conditions_before_never(&until);
+                match go_back_with_expectations(alloc, lab, notes, watched, only) {
+                    Ok(removed) => ChangeResult::EventsRemoved {
+                        removed,
+                        kept: lab.counts().kept,
+                    },
+                    Err(why) => ChangeResult::Refused(why),
                 }
             }
         }
@@ -95,5 +107,6 @@ pub(crate) fn write_change_result<W: Write>(
         ChangeResult::EventsRemoved { removed, kept } => {
             write_back_until_result(removed, kept, writer)
         }
+        ChangeResult::Refused(why) => writer.write_blocks(expecting_refusal_text(why)),
     }
 }

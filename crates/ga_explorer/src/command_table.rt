@@ -1,10 +1,15 @@
-//! The table of the commands: of each its name, its form, and what `help` prints.
+//! The table of the commands: of each its name, its form, and what `help` prints. The queries that only a text answers.
 
 ghost use Rattle.std.specs.Prelude.{◌≡◌, map};
-ghost use Rattle.ga_explorer.specs.Commands.{command_table};
+ghost use Rattle.ga_text.specs.Output.{WritesSomeText};
+ghost use Rattle.ga_explorer.specs.Commands.{command_table, text_query_of_word, text_query_name, text_query_text};
 ghost use Rattle.ga_explorer.specs.inner.{command_entry_of_row};
 
-use crate::forms::{CommandClass, Row};
+use crate::forms::{CommandClass, Row, say_command, say_help};
+use ga_explorer_text::{chip_overview, write_saved_session};
+use ga_lab::Lab;
+use ga_text::{WriteResult, Writer};
+use std::io::Write;
 
 /// The commands, in the order of `help`.
 static ROWS: &[Row] = &[
@@ -12,9 +17,9 @@ static ROWS: &[Row] = &[
         name: b"run",
         class: CommandClass::Change,
         form: b"run [greedy|random SEED] [N] [until COND]",
-        does: b"\n                      make up to N events, in rounds or in this order\nCOND: NNN VALUE OP N, pass NNN MMM OP N, pass NNN MMM J, step NNN K, stop, stop NNN,\n      wait NNN, mem NNN HH = N, p NNN X, reach NNN X, change NNN HH [= N], COND or COND\nVALUE: t s r p a b i, d2 to d9, r1 to r8, io, slot, carry, step, [HH]\nOP: = != < <= > >=   N: a number, a port, a label   X: an address, a label, line N\n",
+        does: b"\n                      make up to N events, in rounds or in this order\nCOND: NNN VALUE OP N, pass NNN MMM OP N, pass NNN MMM J, step NNN K, stop, stop NNN,\n      wait NNN, mem NNN HH = N, p NNN X, reach NNN X, change NNN HH [= N], broken, COND or COND\nVALUE: t s r p a b i, d2 to d9, r1 to r8, io, slot, carry, step, [HH]\nOP: = != < <= > >=   N: a number, a port, a label   X: an address, a label, line N\n",
         more: b"answers: reached M EVENT, made M, quiet M or full M: how many events, and why no more\nexample: run 1000 until stop or 001 t = 0x150\n",
-        usage: "",
+        usage: "  run [N] [until COND]   make events in rounds, at most N: each node that has an event makes one, in the order of their names\n  run greedy ..          each node as long as it has an event\n  run random SEED ..     nodes drawn by a generator with this seed\n",
     },
     Row {
         name: b"chip",
@@ -89,6 +94,14 @@ static ROWS: &[Row] = &[
         usage: "  races [NNN]            show the steps that yield another word in another order, and the commands that lead there\n",
     },
     Row {
+        name: b"expectations",
+        class: CommandClass::Query,
+        form: b"expectations",
+        does: b"          how each line expect of the source stands\n",
+        more: b"answers: for each whether it is held, broken and by what, or pending: it depends on what comes or on other orders\nexample: expectations\n",
+        usage: "  expectations           show how each line expect of the source stands: held, broken or pending\n",
+    },
+    Row {
         name: b"save",
         class: CommandClass::Query,
         form: b"save",
@@ -118,7 +131,7 @@ static ROWS: &[Row] = &[
         form: b"back [[NNN] until COND]",
         does: b"\n                      undo the newest event; or the newest after which COND held, and all\n                      later ones; or such a step of NNN, with its dependents\n",
         more: b"answers: removed X kept M: X events were removed, and M are left; or none if there is no such event\nexample: back until change 001 20\n",
-        usage: "",
+        usage: "  back until COND        undo the newest event after which COND held, and all later ones\n  back NNN until COND    roll back the newest such step of NNN, with its dependents\n",
     },
     Row {
         name: b"rewind",
@@ -192,4 +205,59 @@ pub(crate) fn command_table() -> &'static [Row]
     ensures { map command_entry_of_row result.now ≡ command_table }
 {
     ROWS
+}
+
+/// A query that only a text answers.
+#[derive(Clone, Copy, PartialEq, Eq)]
+pub enum TextQuery {
+    /// `chip`: what each node does.
+    Chip,
+    /// `save`: debugger commands that make the history again.
+    Save,
+    /// `help`: the commands.
+    Help,
+    /// `help` of one command, by its place among them.
+    CommandHelp(usize),
+}
+
+/// The query that is spelled by one word and that only a text answers.
+#[tactic(auto, unfolding(crate::specs::Commands::text_query_of_word))]
+pub(crate) fn text_query_of_word(name: &[u8]) -> Option<TextQuery>
+    ensures { result ≡ text_query_of_word name.now }
+{
+    match name {
+        b"chip" => Some(TextQuery::Chip),
+        b"save" => Some(TextQuery::Save),
+        b"help" => Some(TextQuery::Help),
+        _ => None,
+    }
+}
+
+impl TextQuery {
+    /// The word with which a line spells it.
+    pub fn name(self) -> &'static [u8]
+        ensures { result.now ≡ text_query_name self }
+    {
+        match self {
+            TextQuery::Chip => b"chip",
+            TextQuery::Save => b"save",
+            TextQuery::Help => b"help",
+            TextQuery::CommandHelp(_) => b"help",
+        }
+    }
+
+    /// Writes its text.
+    ///
+    /// # Errors
+    /// A write failed.
+    pub fn write_text<W: Write>(self, lab: &Lab, writer: &mut Writer<'_, W>) -> WriteResult
+        ensures { WritesSomeText result (λ text. text ≡ text_query_text lab.now self) W.contents writer.old writer.new }
+    {
+        match self {
+            TextQuery::Chip => writer.write_blocks(chip_overview(lab).as_slice()),
+            TextQuery::Save => write_saved_session(lab, writer),
+            TextQuery::Help => say_help(writer),
+            TextQuery::CommandHelp(place) => say_command(place, writer),
+        }
+    }
 }

@@ -1,11 +1,9 @@
 //! The commands of exploring: of each how a line spells it, and what answers it.
 
-ghost use Rattle.std.specs.Prelude.{◌≡◌, option_and_then, IfSome};
-ghost use Rattle.ga_event.specs.Flow.{IsNodePartInRange};
-ghost use Rattle.ga_text.specs.Output.{WritesSomeText};
-ghost use Rattle.ga_explorer.specs.Reading.{part_of_node_value};
-ghost use Rattle.ga_explorer.specs.Commands.{explorer_command_of_line, single_word_command, query_without_arguments, command_with_arguments, query_with_arguments, text_query_name, text_query_text};
-ghost use Rattle.ga_explorer.specs.inner.{explorer_state, IsQueryAnswerWritten};
+ghost use Rattle.std.specs.Prelude.{◌≡◌};
+ghost use Rattle.ga_explorer.specs.Commands.{explorer_command_of_line, single_word_command, query_without_arguments, command_with_arguments, query_with_arguments};
+ghost use Rattle.ga_explorer.specs.inner.{IsQueryAnswerWritten};
+ghost use Rattle.ga_explorer.specs.Opening.{explorer_state};
 
 use crate::arguments::{
     parse_node_and_cell, parse_node_and_step, parse_node_and_steps, parse_node_and_value,
@@ -13,17 +11,17 @@ use crate::arguments::{
 };
 use crate::back_request::parse_back;
 use crate::changes::Change;
-use crate::forms::{place_of, say_command, say_help};
-use crate::named_value::part_of_node_value;
+use crate::command_table::{TextQuery, text_query_of_word};
+use crate::forms::place_of;
+use crate::named_value::part_of_value;
 use crate::run_request::{MOST_EVENTS, parse_run};
 use ga_conditions::never_holding_conditions;
 use ga_console::StepSelector;
 use ga_debug_info::DebugInfo;
-use ga_event::NodePart;
 use ga_explorer_text::{
-    chip_overview, write_cell_writes, write_decisions_answer, write_link_words,
-    write_provenance_answer, write_races, write_rollback_effects, write_saved_session,
-    write_steps_around, write_waiting_nodes,
+    write_cell_writes, write_decisions_answer, write_expectations, write_link_words,
+    write_provenance_answer, write_races, write_rollback_effects, write_steps_around,
+    write_waiting_nodes,
 };
 use ga_grid::NodeId;
 use ga_lab::Lab;
@@ -83,23 +81,12 @@ pub enum Query {
     Races {
         only: Option<NodeId>,
     },
+    /// `expectations`: writes how each expectation of the source stands.
+    Expectations,
     /// `who`: writes who waits for whom, and which nodes are deadlocked.
     WaitingNodes,
     /// One that only a text answers.
     Text(TextQuery),
-}
-
-/// A query that only a text answers.
-#[derive(Clone, Copy, PartialEq, Eq)]
-pub enum TextQuery {
-    /// `chip`: what each node does.
-    Chip,
-    /// `save`: debugger commands that make the history again.
-    Save,
-    /// `help`: the commands.
-    Help,
-    /// `help` of one command, by its place among them.
-    CommandHelp(usize),
 }
 
 /// The command of exploring that a line spells, or none.
@@ -132,13 +119,13 @@ fn single_word_command(name: &[u8]) -> Option<ExplorerCommand>
 fn query_without_arguments(name: &[u8]) -> Option<Query>
     ensures { result ≡ query_without_arguments name.now }
 {
+    if name == b"expectations".as_slice() {
+        return Some(Query::Expectations);
+    }
     match name {
         b"who" => Some(Query::WaitingNodes),
         b"races" => Some(Query::Races { only: None }),
-        b"chip" => Some(Query::Text(TextQuery::Chip)),
-        b"save" => Some(Query::Text(TextQuery::Save)),
-        b"help" => Some(Query::Text(TextQuery::Help)),
-        _ => None,
+        _ => Some(Query::Text(text_query_of_word(name)?)),
     }
 }
 
@@ -230,54 +217,24 @@ pub(crate) fn answer_query<W: Write>(
             first,
         } => {
             let step = which.resolve(lab, node);
-            write_provenance_answer(alloc, lab, notes, node, step, part_of(value), first, writer)
+            write_provenance_answer(
+                alloc,
+                lab,
+                notes,
+                node,
+                step,
+                part_of_value(value),
+                first,
+                writer,
+            )
         }
         Query::Because { node, which, most } => {
             let step = which.resolve(lab, node);
             write_decisions_answer(lab, notes, node, step, most, writer)
         }
         Query::Races { only } => write_races(alloc, lab, only, writer),
+        Query::Expectations => write_expectations(alloc, lab, notes, writer),
         Query::WaitingNodes => write_waiting_nodes(lab, writer),
         Query::Text(query) => query.write_text(lab, writer),
-    }
-}
-
-/// The part of a node that is named, if one is.
-fn part_of(value: Option<NodeValue>) -> Option<NodePart>
-    ensures value { result ≡ option_and_then part_of_node_value value }
-    ensures part { IfSome result IsNodePartInRange }
-{
-    match value {
-        Some(value) => part_of_node_value(value),
-        None => None,
-    }
-}
-
-impl TextQuery {
-    /// The word with which a line spells it.
-    pub fn name(self) -> &'static [u8]
-        ensures { result.now ≡ text_query_name self }
-    {
-        match self {
-            TextQuery::Chip => b"chip",
-            TextQuery::Save => b"save",
-            TextQuery::Help => b"help",
-            TextQuery::CommandHelp(_) => b"help",
-        }
-    }
-
-    /// Writes its text.
-    ///
-    /// # Errors
-    /// A write failed.
-    pub fn write_text<W: Write>(self, lab: &Lab, writer: &mut Writer<'_, W>) -> WriteResult
-        ensures { WritesSomeText result (λ text. text ≡ text_query_text lab.now self) W.contents writer.old writer.new }
-    {
-        match self {
-            TextQuery::Chip => writer.write_blocks(chip_overview(lab).as_slice()),
-            TextQuery::Save => write_saved_session(lab, writer),
-            TextQuery::Help => say_help(writer),
-            TextQuery::CommandHelp(place) => say_command(place, writer),
-        }
     }
 }

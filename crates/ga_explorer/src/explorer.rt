@@ -3,7 +3,7 @@
 ghost use Rattle.std.specs.Prelude.{◌≡◌, ◌≤◌, length, Some, None, IfSome, IfNone, IsTrue, false};
 ghost use Rattle.ga_text.specs.Output.{WritesSomeText};
 ghost use Rattle.ga_explorer.specs.Commands.{explorer_command_of_line, AnswersExplorerCommand};
-ghost use Rattle.ga_explorer.specs.inner.{explorer_state};
+ghost use Rattle.ga_explorer.specs.Opening.{explorer_state};
 ghost use Rattle.ga_explorer.specs.Answers.{AnswersLineOrQuits, AnswersNonExplorerLine, IsDebuggerLine, IsNoDebuggerCommand};
 ghost use Rattle.ga_console.specs.Session.{AnswersOrQuitsLine};
 
@@ -31,8 +31,7 @@ pub struct Explorer {
 }
 
 impl Model for Explorer {
-    ghost use Rattle.ga_explorer.specs.Opening.{ExplorerState};
-    ghost use Rattle.ga_explorer.specs.inner.{explorer_state};
+    ghost use Rattle.ga_explorer.specs.Opening.{ExplorerState, explorer_state};
 
     ghost Value = { ExplorerState };
 
@@ -80,7 +79,6 @@ impl Explorer {
 
 impl Responder for Explorer {
     ghost use Rattle.std.specs.Prelude.{None};
-    ghost use Rattle.ga_explorer.specs.inner.{explorer_state};
     ghost use Rattle.ga_explorer.specs.Answers.{AnswersExplorerLine};
 
     ghost answers = { AnswersExplorerLine };
@@ -156,7 +154,10 @@ fn explored<W: Write>(
         W.contents writer.old writer.new }
 {
     match asked {
-        ExplorerCommand::Change(change) => write_change_result(change.carry_out(lab), writer),
+        ExplorerCommand::Change(change) => write_change_result(
+            change.carry_out(alloc, lab, notes),
+            writer,
+        ),
         ExplorerCommand::AnswerQuery(question) => answer_query(alloc, lab, notes, question, writer),
     }
 }

@@ -36,7 +36,7 @@ pub(crate) struct Row {
     pub(crate) does: &'static [u8],
     /// What `help` of this command says besides: what it answers, and an example.
     pub(crate) more: &'static [u8],
-    /// The command's line in what `ga144 explore --help` says of commands that only tell; none of others.
+    /// The command's lines in `ga144 explore --help`; none of a command that `debug` has.
     pub(crate) usage: &'static str,
 }
 
@@ -68,10 +68,10 @@ fn write_help_row<W: Write>(row: &Row, writer: &mut Writer<'_, W>) -> WriteResul
     writer.write_blocks(row.does)
 }
 
-/// What `ga144 explore --help` says of the commands that only tell, a line each.
-pub struct QueryUsage;
+/// What `ga144 explore --help` says of the commands.
+pub struct CommandUsage;
 
-impl fmt::Display for QueryUsage {
+impl fmt::Display for CommandUsage {
     fn fmt<W: fmt::Write>(&self, f: &mut fmt::Formatter<W>) -> fmt::Result {
         for row in command_table() {
             f.write_str(row.usage)?;

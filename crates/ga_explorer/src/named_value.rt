@@ -1,6 +1,6 @@
 //! The part of a node that a command names.
 
-ghost use Rattle.std.specs.Prelude.{◌≡◌, IfSome};
+ghost use Rattle.std.specs.Prelude.{◌≡◌, option_and_then, IfSome};
 ghost use Rattle.ga_event.specs.Flow.{IsNodePartInRange};
 ghost use Rattle.ga_explorer.specs.Reading.{part_of_node_value, parse_part_value};
 
@@ -19,7 +19,7 @@ pub(crate) fn parse_part_value(word: &[u8]) -> Option<NodeValue>
 }
 
 /// The part of a node that has this value; none for the number of its steps.
-pub fn part_of_node_value(value: NodeValue) -> Option<NodePart>
+fn part_of_node_value(value: NodeValue) -> Option<NodePart>
     ensures value { result ≡ part_of_node_value value }
     ensures part { IfSome result IsNodePartInRange }
 {
@@ -43,4 +43,15 @@ pub fn part_of_node_value(value: NodeValue) -> Option<NodePart>
         }
     };
     Some(part)
+}
+
+/// The part of a node that is named, if one is.
+pub fn part_of_value(value: Option<NodeValue>) -> Option<NodePart>
+    ensures value { result ≡ option_and_then part_of_node_value value }
+    ensures part { IfSome result IsNodePartInRange }
+{
+    match value {
+        Some(value) => part_of_node_value(value),
+        None => None,
+    }
 }

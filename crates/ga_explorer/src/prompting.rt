@@ -41,7 +41,8 @@ impl PromptedExplorer {
 
 impl Responder for PromptedExplorer {
     ghost use Rattle.std.specs.Prelude.{false, None, []};
-    ghost use Rattle.ga_explorer.specs.inner.{explorer_state, PromptingSessionGoesOn, PromptingSessionEnds};
+    ghost use Rattle.ga_explorer.specs.inner.{PromptingSessionGoesOn, PromptingSessionEnds};
+    ghost use Rattle.ga_explorer.specs.Opening.{explorer_state};
 
     ghost answers = { λ p line written new. PromptingSessionGoesOn p.is_prompted p.explorer.is_strict p.explorer.explorer line written new.is_prompted new.explorer.is_strict new.explorer.explorer };
 

@@ -48,7 +48,8 @@ impl StrictExplorer {
 
 impl Responder for StrictExplorer {
     ghost use Rattle.std.specs.Prelude.{false, None, []};
-    ghost use Rattle.ga_explorer.specs.inner.{explorer_state, StrictSessionGoesOn, StrictSessionEnds};
+    ghost use Rattle.ga_explorer.specs.inner.{StrictSessionGoesOn, StrictSessionEnds};
+    ghost use Rattle.ga_explorer.specs.Opening.{explorer_state};
 
     ghost answers = { λ p line answer new. StrictSessionGoesOn p.is_strict p.explorer line answer new.is_strict new.explorer };
 

@@ -6,8 +6,7 @@ use Rattle.ga_text.specs.declared.output.WriteError.{WriteError}
 use Rattle.ga_text.specs.declared.output.Writer.{Writer}
 use Rattle.ga_lab.specs.Machine.{MachineState}
 use Rattle.ga_console.specs.declared.command.DebuggerCommand.{DebuggerCommand}
-use Rattle.ga_explorer.specs.Opening.{ExplorerState}
-use Rattle.ga_explorer.specs.inner.{explorer_state}
+use Rattle.ga_explorer.specs.Opening.{ExplorerState, explorer_state}
 use Rattle.ga_explorer.specs.declared.commands.ExplorerCommand.{ExplorerCommand}
 use Rattle.ga_explorer.specs.declared.commands.ExplorerCommand.TheVariants as command
 use Rattle.ga_explorer.specs.Changes.{change_name, IsChangeResult}
@@ -60,7 +59,7 @@ module _ {T W : Type 0} (contents : W → Option Bytes) (result : Result T Write
       (λ text h. (subst (λ z. IsJsonLine (AnswersQueryJson e z) text) (sym told.is) h, same)) told.said
 
 -- the line of what a change came to
-pub changed : (e : ExplorerState) (asked : ExplorerCommand) (change : Change) (came : ChangeResult) (new : MachineState) → asked ≡ command.Change change → IsChangeResult e.lab change came new
+pub changed : (e : ExplorerState) (asked : ExplorerCommand) (change : Change) (came : ChangeResult) (new : MachineState) → asked ≡ command.Change change → IsChangeResult e change came new
     → AnswersExplorerJson e asked (json_line (change_result_json (change_name change) came)) (explorer_state new e.notes)
 changed e asked change came new is h =
     subst (λ (z : ExplorerCommand). AnswersExplorerJson e z (json_line (change_result_json (change_name change) came)) (explorer_state new e.notes)) (sym is) (came, h, refl, refl)

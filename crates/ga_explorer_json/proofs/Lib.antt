@@ -3,6 +3,7 @@ pub mod Appended
 pub mod Because
 pub mod Changes
 pub mod Effects
+pub mod Expected
 pub mod NodeState
 pub mod Races
 pub mod Refusals
@@ -17,5 +18,6 @@ pub mod Steps
 pub mod Utf8Values
 pub mod Utf8Rows
 pub mod Utf8Queries
+pub mod Utf8Expected
 pub mod Utf8Answers
 pub mod JsonSessions

@@ -11,8 +11,7 @@ use Rattle.ga_console.specs.declared.commands.CommandsEnd.{CommandsEnd}
 use Rattle.ga_console.specs.declared.responder.LineAction.{LineAction}
 use Rattle.ga_console.specs.declared.responder.LineAction.TheVariants as turn
 use Rattle.ga_debug_info.specs.declared.notes.DebugInfo.{DebugInfo}
-use Rattle.ga_explorer.specs.Opening.{ExplorerState}
-use Rattle.ga_explorer.specs.inner.{explorer_state}
+use Rattle.ga_explorer.specs.Opening.{ExplorerState, explorer_state}
 use Rattle.ga_explorer.proofs.Serving.{serves_seen}
 use Rattle.ga_explorer_json.specs.Answers.{IsRequestOfLine, AnswersLineRequest, AnswersJsonLine}
 use Rattle.ga_explorer_json.specs.Session.{is_json_refusal, AnswersJsonAndContinues, AnswersJsonAndEndsSession, long_input_refusal_line}

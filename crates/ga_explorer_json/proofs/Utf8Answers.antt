@@ -34,12 +34,14 @@ use Rattle.ga_explorer.specs.Opening.{ExplorerState}
 use Rattle.ga_console.specs.Selectors.{selected_step_number}
 use Rattle.ga_explorer.specs.Reading.{part_of_node_value}
 use Rattle.ga_explorer.specs.Changes.{change_name}
-use Rattle.ga_explorer.specs.declared.commands.TextQuery.{TextQuery}
-use Rattle.ga_explorer.specs.declared.commands.TextQuery.TheVariants as plain_query
 use Rattle.ga_explorer.specs.declared.changes.Change.{Change}
 use Rattle.ga_explorer.specs.declared.changes.Change.TheVariants.{Run, BackUntil}
 use Rattle.ga_explorer.specs.declared.changes.ChangeResult.{ChangeResult}
-use Rattle.ga_explorer.specs.declared.changes.ChangeResult.TheVariants.{RunEnded, EventsRemoved}
+use Rattle.ga_explorer.specs.declared.changes.ChangeResult.TheVariants.{RunEnded, EventsRemoved, Refused as ChangeRefused}
+use Rattle.ga_explorer.specs.declared.expecting.ExpectingRefusal.{ExpectingRefusal}
+use Rattle.ga_explorer.specs.declared.expecting.ExpectingRefusal.TheVariants.{NothingExpected, Memory as NoMemoryForExpectations}
+use Rattle.ga_explorer.specs.Expecting.{expecting_refusal_text}
+use Rattle.ga_debug_info.specs.declared.notes.DebugInfo.{DebugInfo}
 use Rattle.ga_explorer.specs.declared.commands.ExplorerCommand.{ExplorerCommand}
 use Rattle.ga_explorer.specs.declared.commands.ExplorerCommand.TheVariants as asked
 use Rattle.ga_explorer.specs.declared.commands.Query.{Query}
@@ -48,7 +50,7 @@ use Rattle.ga_json.specs.Values.{JsonValue, number, string}
 use Rattle.ga_json.specs.Fields.{NamedValue}
 use Rattle.ga_json.specs.Compact.{IsWritableValue, AreWritableItems}
 use Rattle.ga_explorer_json.specs.Answers.{AnswersCommandJson, AnswersQueryJson, AnswersExplorerJson, IsRequestOfLine, AnswersLineRequest, AnswersJsonLine}
-use Rattle.ga_explorer_json.specs.Changes.{step_answer_json, IsStepJson, removal_counts_json, undo_json, rewind_json, held_condition_fields, run_end_fields, run_json, change_result_json}
+use Rattle.ga_explorer_json.specs.Changes.{expecting_refusal_json, step_answer_json, IsStepJson, removal_counts_json, undo_json, rewind_json, held_condition_fields, run_end_fields, run_json, change_result_json}
 use Rattle.ga_explorer_json.specs.Events.{made_event_fields}
 use Rattle.ga_explorer_json.specs.JsonLines.{IsValidJsonLine, IsJsonLineUnlessQuit}
 use Rattle.ga_explorer_json.specs.NodeState.{node_status_fields, node_register_fields, node_fields, stack_part_at_index, stack_rows, node_json}
@@ -62,6 +64,7 @@ use Rattle.ga_explorer_json.specs.declared.answers.LineRequest.{LineRequest}
 use Rattle.ga_explorer_json.specs.declared.answers.LineRequest.TheVariants as request
 use Rattle.ga_explorer_json.proofs.Utf8Values.{IsLow, is_low, low, low_utf8, plain, node_name, is_json_line, checked_text, optional_number, number_if_any, AreUtf8Fields, are_named, fields, fields_append, json_object_of_member, report_of, rows_of, members_of, have_low_names, object_by}
 use Rattle.ga_explorer_json.proofs.Utf8Rows.{hint_utf8, fault_word_utf8, fault_hint_utf8, lab_refusal, step_refusal, made_event, value}
+use Rattle.ga_explorer_json.proofs.Utf8Expected.{expectations_utf8}
 use Rattle.ga_explorer_json.proofs.Utf8Queries.{effects_utf8, words_utf8, writes_utf8, at_utf8, whence_utf8, because_utf8, races_utf8, activity_utf8, who_utf8}
 
 -- the same value
@@ -115,9 +118,17 @@ unfolding is_low
 change_name_utf8 (Run schedule most until) = plain (codes "run") refl
 change_name_utf8 (BackUntil only until) = plain (codes "back") refl
 
+expecting_refusal_utf8 : (command : Text) (why : ExpectingRefusal) → IsUtf8 command → IsWritableValue (expecting_refusal_json command why)
+unfolding is_low have_low_names
+expecting_refusal_utf8 command NothingExpected h =
+    let line : Text = expecting_refusal_text NothingExpected in
+    object_by (members_of (expecting_refusal_json command NothingExpected)) refl (h, (tt, (plain (codes "noexpect") refl, (hint_utf8 line (low line refl), tt))))
+expecting_refusal_utf8 command NoMemoryForExpectations h = lab_refusal command NoMemory h
+
 change_result_utf8 : (command : Text) (came : ChangeResult) → IsUtf8 command → IsWritableValue (change_result_json command came)
 change_result_utf8 command (RunEnded ran conditions) h = run_utf8 command ran.events ran.end h
 change_result_utf8 command (EventsRemoved removed kept) h = removed_utf8 command removed kept h
+change_result_utf8 command (ChangeRefused why) h = expecting_refusal_utf8 command why h
 
 -- ---- readings
 
@@ -175,13 +186,13 @@ why_utf8 s from k to j answer (inr h) = as_value answer _ h.1 (lab_refusal (code
 
 -- ---- texts
 
-text_utf8 : (command text : Text) → IsUtf8 command → IsWritableValue (text_answer_json command text)
+text_utf8 : (command text : Text) → IsWritableValue (text_answer_json command text)
 unfolding is_low have_low_names
-text_utf8 command text h = object_by (members_of (text_answer_json command text)) refl (h, (checked_text text, tt))
+text_utf8 command text = object_by (members_of (text_answer_json command text)) refl (checked_text command, (checked_text text, tt))
 
 dump_utf8 : (s : MachineState) (answer : JsonValue) → IsDumpJson s answer → IsWritableValue answer
 unfolding is_low
-dump_utf8 s answer (inl e) = as_value answer _ e (text_utf8 (codes "dump") (printed_image (chip_of_machine s)) (plain (codes "dump") refl))
+dump_utf8 s answer (inl e) = as_value answer _ e (text_utf8 (codes "dump") (printed_image (chip_of_machine s)))
 dump_utf8 s answer (inr e) = as_value answer _ e (lab_refusal (codes "dump") NoMemory (plain (codes "dump") refl))
 
 line_refusal : (code : ℕ) (why hint : Text) → IsUtf8 why → IsUtf8 hint → IsWritableValue (line_refusal_json code why hint)
@@ -262,13 +273,6 @@ command_answer s Count line answer new is h = inr (is_json_line (history_counts_
 command_answer s Dump line answer new is h = inr (line_of (IsDumpJson s) answer (dump_utf8 s) h.0)
 command_answer s Quit line answer new is h = inl (is, h.0)
 
-text_query_name_utf8 : (asked : TextQuery) → IsUtf8 (text_query_name asked)
-unfolding is_low
-text_query_name_utf8 plain_query.Chip = plain (codes "chip") refl
-text_query_name_utf8 plain_query.Save = plain (codes "save") refl
-text_query_name_utf8 plain_query.Help = plain (codes "help") refl
-text_query_name_utf8 (plain_query.CommandHelp place) = plain (codes "help") refl
-
 query_utf8 : (e : ExplorerState) (asked : Query) (answer : JsonValue) → AnswersQueryJson e asked answer → IsWritableValue answer
 unfolding is_low
 query_utf8 e (query.Effects node which) answer h = effects_utf8 e.notes e.lab node (selected_step_number e.lab node which) answer h
@@ -279,8 +283,9 @@ query_utf8 e (query.Whence node which queried first) answer h =
     whence_utf8 e.notes e.lab node (selected_step_number e.lab node which) (option_and_then part_of_node_value queried) first answer h
 query_utf8 e (query.Because node which most) answer h = as_value answer _ h (because_utf8 e.notes e.lab node (selected_step_number e.lab node which) most)
 query_utf8 e (query.Races only) answer h = races_utf8 e.lab only answer h
+query_utf8 e query.Expectations answer h = expectations_utf8 e.notes e.lab answer h
 query_utf8 e query.WaitingNodes answer h = who_utf8 e.lab answer h
-query_utf8 e (query.Text asked) answer h = as_value answer _ h (text_utf8 (text_query_name asked) (text_query_text e.lab asked) (text_query_name_utf8 asked))
+query_utf8 e (query.Text asked) answer h = as_value answer _ h (text_utf8 (text_query_name asked) (text_query_text e.lab asked))
 
 explorer_answer : (e : ExplorerState) (command : ExplorerCommand) (answer : Text) (new : ExplorerState) → AnswersExplorerJson e command answer new → IsValidJsonLine answer
 explorer_answer e (asked.Change change) answer new h =

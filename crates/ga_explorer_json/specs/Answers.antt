@@ -32,6 +32,7 @@ use Rattle.ga_explorer_json.specs.Whence.{IsProvenanceJson}
 use Rattle.ga_explorer_json.specs.Because.{decisions_answer_json}
 use Rattle.ga_explorer_json.specs.Races.{IsRacesJson}
 use Rattle.ga_explorer_json.specs.Who.{IsWaitingNodesJson}
+use Rattle.ga_explorer_json.specs.Expected.{IsExpectationsJson}
 use Rattle.ga_explorer_json.specs.Texts.{text_answer_json, long_line_refusal_json, syntax_refusal_of_line}
 use Rattle.ga_explorer_json.specs.declared.answers.LineRequest.{LineRequest}
 use Rattle.ga_explorer_json.specs.declared.answers.LineRequest.TheVariants as request
@@ -63,12 +64,13 @@ AnswersQueryJson e (query.Whence node which value first) answer =
     IsProvenanceJson e.notes e.lab node (selected_step_number e.lab node which) (option_and_then part_of_node_value value) first answer
 AnswersQueryJson e (query.Because node which most) answer = answer ≡ decisions_answer_json e.notes e.lab node (selected_step_number e.lab node which) most
 AnswersQueryJson e (query.Races only) answer = IsRacesJson e.lab only answer
+AnswersQueryJson e query.Expectations answer = IsExpectationsJson e.notes e.lab answer
 AnswersQueryJson e query.WaitingNodes answer = IsWaitingNodesJson e.lab answer
 AnswersQueryJson e (query.Text asked) answer = answer ≡ text_answer_json (text_query_name asked) (text_query_text e.lab asked)
 
 abbrev pub AnswersExplorerJson : ExplorerState → ExplorerCommand → Text → ExplorerState → Type 0
 AnswersExplorerJson e (asked.Change change) answer new =
-    (came : ChangeResult) × IsChangeResult e.lab change came new.lab × (answer ≡ json_line (change_result_json (change_name change) came)) × (new.notes ≡ e.notes)
+    (came : ChangeResult) × IsChangeResult e change came new.lab × (answer ≡ json_line (change_result_json (change_name change) came)) × (new.notes ≡ e.notes)
 AnswersExplorerJson e (asked.AnswerQuery question) answer new = IsJsonLine (AnswersQueryJson e question) answer × (new ≡ e)
 
 -- ---- a line

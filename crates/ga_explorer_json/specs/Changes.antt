@@ -7,14 +7,17 @@ use Rattle.ga_lab.specs.Machine.{MachineState, step_answer, state_after_step}
 use Rattle.ga_lab.specs.declared.fault.LabFault.{LabFault}
 use Rattle.ga_lab.specs.declared.fault.LabFault.TheVariants.{Memory}
 use Rattle.ga_scheduler.specs.declared.running.RunEnd.{RunEnd}
-use Rattle.ga_scheduler.specs.declared.running.RunEnd.TheVariants.{ConditionHeld, MadeRequestedEvents as AllMade, Quiet, Refused}
+use Rattle.ga_scheduler.specs.declared.running.RunEnd.TheVariants as run_end
 use Rattle.ga_explorer.specs.declared.changes.ChangeResult.{ChangeResult}
-use Rattle.ga_explorer.specs.declared.changes.ChangeResult.TheVariants.{RunEnded, EventsRemoved}
+use Rattle.ga_explorer.specs.declared.changes.ChangeResult.TheVariants.{RunEnded, EventsRemoved, Refused}
+use Rattle.ga_explorer.specs.declared.expecting.ExpectingRefusal.{ExpectingRefusal}
+use Rattle.ga_explorer.specs.declared.expecting.ExpectingRefusal.TheVariants.{NothingExpected, Memory as NoMemory}
+use Rattle.ga_explorer.specs.Expecting.{expecting_refusal_text}
 use Rattle.ga_json.specs.Values.{JsonValue, number, string}
 use Rattle.ga_json.specs.Fields.{NamedValue, json_object}
 use Rattle.ga_explorer_json.specs.Events.{made_event_fields}
 use Rattle.ga_explorer_json.specs.Parts.{json_number_or_null}
-use Rattle.ga_explorer_json.specs.Refusals.{lab_fault_keyword, lab_fault_hint, lab_refusal_json, refusal_json_about_step}
+use Rattle.ga_explorer_json.specs.Refusals.{hint_of_refusal, refusal_json, lab_fault_keyword, lab_fault_hint, lab_refusal_json, refusal_json_about_step}
 
 -- ---- `step`
 
@@ -52,10 +55,10 @@ held_condition_fields which = (codes "end", string (codes "reached")) ∷ (codes
 
 -- why the run ended: the event after which a condition held; or the word and the hint of the refusal
 abbrev pub run_end_fields : RunEnd → List NamedValue
-run_end_fields (ConditionHeld made which) = held_condition_fields which ++ made_event_fields made
-run_end_fields AllMade = (codes "end", string (codes "made")) ∷ []
-run_end_fields Quiet = (codes "end", string (codes "quiet")) ∷ []
-run_end_fields (Refused why) = (codes "end", string (lab_fault_keyword why)) ∷ (codes "hint", string (lab_fault_hint why)) ∷ []
+run_end_fields (run_end.ConditionHeld made which) = held_condition_fields which ++ made_event_fields made
+run_end_fields run_end.MadeRequestedEvents = (codes "end", string (codes "made")) ∷ []
+run_end_fields run_end.Quiet = (codes "end", string (codes "quiet")) ∷ []
+run_end_fields (run_end.Refused why) = (codes "end", string (lab_fault_keyword why)) ∷ (codes "hint", string (lab_fault_hint why)) ∷ []
 
 -- how many events were made, and why no more
 abbrev pub run_json : Text → ℕ → RunEnd → JsonValue
@@ -63,6 +66,12 @@ run_json command events end = json_object (((codes "command", string command) �
 
 -- ---- a change of exploring, by its name
 
+-- `broken` is among the conditions, and the source expects nothing; or an allocation failed
+abbrev pub expecting_refusal_json : Text → ExpectingRefusal → JsonValue
+expecting_refusal_json command NothingExpected = refusal_json command 35 (codes "noexpect") (hint_of_refusal (expecting_refusal_text NothingExpected))
+expecting_refusal_json command NoMemory = lab_refusal_json command Memory
+
 abbrev pub change_result_json : Text → ChangeResult → JsonValue
 change_result_json command (RunEnded ran conditions) = run_json command ran.events ran.end
 change_result_json command (EventsRemoved removed kept) = removal_counts_json command removed kept
+change_result_json command (Refused why) = expecting_refusal_json command why

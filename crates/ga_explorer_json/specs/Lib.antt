@@ -12,6 +12,7 @@ pub mod Refusals
 pub mod Rows
 pub mod Whence
 pub mod Who
+pub mod Expected
 pub mod Words
 pub mod Writes
 pub mod Texts

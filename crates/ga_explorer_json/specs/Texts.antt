@@ -11,7 +11,7 @@ use Rattle.ga_explorer.specs.NoCommand.{command_suggestion}
 
 -- the command, and the text of its answer
 abbrev pub text_answer_json : Text → Text → JsonValue
-text_answer_json command text = json_object ((codes "command", string command) ∷ (codes "text", text_json text) ∷ [])
+text_answer_json command text = json_object ((codes "command", text_json command) ∷ (codes "text", text_json text) ∷ [])
 
 -- no command, and the number, the word and the hint of the refusal
 abbrev pub line_refusal_json : ℕ → Text → Text → JsonValue

@@ -1,10 +1,8 @@
 //! What answers a line of a session: the command that it spells, and the answer of each command.
 
-ghost use Rattle.std.specs.Prelude.{◌≡◌, option_and_then, IfSome};
-ghost use Rattle.ga_event.specs.Flow.{IsNodePartInRange};
+ghost use Rattle.std.specs.Prelude.{◌≡◌};
 ghost use Rattle.ga_text.specs.Output.{WritesSomeText};
-ghost use Rattle.ga_explorer.specs.Reading.{part_of_node_value};
-ghost use Rattle.ga_explorer.specs.inner.{explorer_state};
+ghost use Rattle.ga_explorer.specs.Opening.{explorer_state};
 ghost use Rattle.ga_explorer_json.specs.Answers.{AnswersCommandJson, AnswersExplorerJson, IsRequestOfLine, AnswersLineRequest};
 ghost use Rattle.ga_explorer_json.specs.inner.{IsQueryJsonWritten};
 
@@ -12,18 +10,16 @@ use crate::changes_json::write_change_result_json;
 use crate::steps_json::{write_chain_json, write_dump_json, write_trace_json};
 use crate::text_json::{write_long_line_json, write_query_text, write_syntax_json};
 use crate::{
-    write_cell_writes_json, write_decisions_json, write_event_counts_json, write_link_words_json,
-    write_memory_json, write_node_json, write_provenance_json, write_races_json, write_rewind_json,
-    write_rollback_effects_json, write_step_json, write_steps_around_json, write_undo_json,
-    write_waiting_nodes_json,
+    write_cell_writes_json, write_decisions_json, write_event_counts_json, write_expectations_json,
+    write_link_words_json, write_memory_json, write_node_json, write_provenance_json,
+    write_races_json, write_rewind_json, write_rollback_effects_json, write_step_json,
+    write_steps_around_json, write_undo_json, write_waiting_nodes_json,
 };
 use ga_console::{DebuggerCommand, parse_debugger_command};
 use ga_debug_info::DebugInfo;
-use ga_event::NodePart;
-use ga_explorer::{ExplorerCommand, Query, parse_explorer_command, part_of_node_value};
+use ga_explorer::{ExplorerCommand, Query, parse_explorer_command, part_of_value};
 use ga_image::MAX_IMAGE_LINE_BYTES;
 use ga_lab::Lab;
-use ga_scheduler::NodeValue;
 use ga_text::{WriteResult, Writer};
 use std::alloc::Global;
 use std::io::Write;
@@ -129,7 +125,7 @@ fn explore_for_json<W: Write>(
         ExplorerCommand::Change(change) => {
             let named = change;
             let command = named.name();
-            write_change_result_json(command, change.carry_out(lab), writer)
+            write_change_result_json(command, change.carry_out(alloc, lab, notes), writer)
         }
         ExplorerCommand::AnswerQuery(query) => {
             answer_query_for_json(alloc, lab, notes, query, writer)
@@ -185,18 +181,8 @@ fn answer_query_for_json<W: Write>(
             write_decisions_json(lab, notes, node, step, most, writer)
         }
         Query::Races { only } => write_races_json(alloc, lab, only, writer),
+        Query::Expectations => write_expectations_json(alloc, lab, notes, writer),
         Query::WaitingNodes => write_waiting_nodes_json(lab, writer),
         Query::Text(query) => write_query_text(alloc, lab, query, writer),
-    }
-}
-
-/// The part of a node that is named, if one is.
-fn part_of_value(value: Option<NodeValue>) -> Option<NodePart>
-    ensures value { result ≡ option_and_then part_of_node_value value }
-    ensures part { IfSome result IsNodePartInRange }
-{
-    match value {
-        Some(value) => part_of_node_value(value),
-        None => None,
     }
 }

@@ -7,17 +7,18 @@ ghost use Rattle.ga_text.specs.Output.{WritesSomeText, WritesExactly};
 ghost use Rattle.ga_json.specs.Compact.{json_line};
 ghost use Rattle.ga_json.specs.Fields.{row_json};
 ghost use Rattle.ga_explorer_json.specs.Rows.{IsJsonLine};
-ghost use Rattle.ga_explorer_json.specs.Changes.{step_answer_json, IsStepJson, removal_counts_json, undo_json, rewind_json, change_result_json};
+ghost use Rattle.ga_explorer_json.specs.Changes.{step_answer_json, IsStepJson, removal_counts_json, undo_json, rewind_json, expecting_refusal_json, change_result_json};
 
+use crate::bytes::hint_of_refusal;
 use crate::event::push_made_event;
 use crate::part::optional_number;
-use crate::refusal::{write_lab_refusal, write_step_refusal};
+use crate::refusal::{write_lab_refusal, write_refusal, write_step_refusal};
 use crate::run_json::write_run_json;
 use ga_event::MadeEvent;
-use ga_explorer::ChangeResult;
+use ga_explorer::{ChangeResult, ExpectingRefusal, expecting_refusal_text};
 use ga_grid::NodeId;
 use ga_json::{Field, RowFields, row_fields, write_object};
-use ga_lab::Lab;
+use ga_lab::{Lab, LabFault};
 use ga_text::{WriteResult, Writer};
 use std::io::Write;
 
@@ -97,6 +98,24 @@ pub(crate) fn write_change_result_json<W: Write>(
             }
             None => write_removed_events(command, None, kept, writer),
         },
+        ChangeResult::Refused(why) => write_expecting_refusal(command, why, writer),
+    }
+}
+
+/// Writes why a change with `broken` among its conditions did nothing.
+fn write_expecting_refusal<W: Write>(
+    command: &[u8],
+    why: ExpectingRefusal,
+    writer: &mut Writer<'_, W>,
+) -> WriteResult
+    ensures { WritesExactly result (json_line (expecting_refusal_json command.now why)) W.contents writer.old writer.new }
+{
+    match why {
+        ExpectingRefusal::NothingExpected => {
+            let hint = hint_of_refusal(expecting_refusal_text(why));
+            write_refusal(command, 35, b"noexpect", hint, writer)
+        }
+        ExpectingRefusal::Memory => write_lab_refusal(command, LabFault::Memory, writer),
     }
 }
 

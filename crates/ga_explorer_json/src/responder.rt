@@ -1,11 +1,11 @@
 //! What answers the lines of a session with JSON objects, and may end it at the first refused command.
 
-ghost use Rattle.std.specs.Prelude.{◌≡◌, [], Some, IfOk, option_map, slice_get};
+ghost use Rattle.std.specs.Prelude.{◌≡◌, [], Some, IfOk, option_map, slice_get, take};
 ghost use Rattle.ga_text.specs.Lines.{Bytes};
 ghost use Rattle.ga_text.specs.Output.{IsTextWrittenOrPending, WritesExactly, WritesSomeText};
-ghost use Rattle.ga_explorer.specs.inner.{explorer_state};
+ghost use Rattle.ga_explorer.specs.Opening.{explorer_state};
 ghost use Rattle.ga_explorer_json.specs.Session.{text_after_comma, is_json_refusal};
-ghost use Rattle.ga_explorer_json.specs.inner.{json_action_after_answer, RespondsToLineRequest};
+ghost use Rattle.ga_explorer_json.specs.inner.{json_action_after_answer, refusal_line_of_object, RespondsToLineRequest};
 
 use crate::answers::{LineRequest, answer_request, line_request};
 use crate::bytes::text_after_first_such_byte;
@@ -47,7 +47,7 @@ impl JsonExplorer {
 
 impl Responder for JsonExplorer {
     ghost use Rattle.std.specs.Prelude.{false, None, []};
-    ghost use Rattle.ga_explorer.specs.inner.{explorer_state};
+    ghost use Rattle.ga_explorer.specs.Opening.{explorer_state};
     ghost use Rattle.ga_explorer_json.specs.inner.{JsonSessionGoesOn, JsonSessionEnds};
 
     ghost answers = { λ p line answer new. JsonSessionGoesOn p.is_strict (explorer_state p.lab p.notes) line answer new.is_strict (explorer_state new.lab new.notes) };
@@ -162,6 +162,7 @@ fn write_answer<W: Write>(
 ) -> Result<LineAction, WriteError>
     ensures written { WritesExactly result answer.now W.contents writer.old writer.new }
     ensures turn { IfOk result (λ turn. turn ≡ json_action_after_answer is_strict answer.now) }
+    ensures noted { result ≡ Ok LineAction.Refused → refusal.new.items ≡ take 201 (refusal_line_of_object (text_after_comma answer.now)) }
 {
     writer.write_blocks(answer)?;
     if !(is_strict && is_json_refusal(answer)) {

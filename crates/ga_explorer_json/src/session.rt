@@ -7,8 +7,7 @@ ghost use Rattle.ga_text.specs.Output.{IsSameStream, IsTextWrittenOrPending, Rea
 ghost use Rattle.ga_json.specs.Compact.{json_line};
 ghost use Rattle.ga_json.specs.Fields.{row_json};
 ghost use Rattle.ga_console.specs.Session.{ServesCommandsWithLimitRefusal, IsWholeOrPrefixOnWriteError};
-ghost use Rattle.ga_explorer.specs.Opening.{optional_image_text};
-ghost use Rattle.ga_explorer.specs.inner.{explorer_state};
+ghost use Rattle.ga_explorer.specs.Opening.{optional_image_text, explorer_state};
 ghost use Rattle.ga_explorer_json.specs.Session.{session_ready_json, long_input_refusal_line, AnswersJsonAndContinues, AnswersJsonAndEndsSession, RunsJsonExplorer};
 
 use crate::responder::JsonExplorer;

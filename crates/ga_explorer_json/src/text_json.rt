@@ -53,7 +53,7 @@ pub(crate) fn write_text_answer<W: Write>(
 fn text_answer_fields<'a>(command: &'a [u8], text: &'a [u8]) -> [Field<'a>; 2]
     ensures { row_json result ≡ text_answer_json command.now text.now }
 {
-    [Field::text(b"command", command), text_field(b"text", text)]
+    [text_field(b"command", command), text_field(b"text", text)]
 }
 
 /// Writes the number, the word and the hint of the refusal of a line that spells no command.

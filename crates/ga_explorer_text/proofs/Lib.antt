@@ -5,3 +5,4 @@ pub mod Because
 pub mod Rings
 pub mod Ending
 pub mod Words
+pub mod Statuses

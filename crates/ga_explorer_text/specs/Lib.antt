@@ -11,4 +11,6 @@ pub mod Waiting
 pub mod Telling
 pub mod Saved
 pub mod Races
+pub mod Observed
+pub mod Expected
 pub mod inner

@@ -99,7 +99,7 @@ fn is_short(answer: &[u8]) -> bool
 
 impl Responder for SilentSession {
     ghost use Rattle.std.specs.Prelude.{false, None};
-    ghost use Rattle.ga_explorer.specs.inner.{explorer_state};
+    ghost use Rattle.ga_explorer.specs.Opening.{explorer_state};
     ghost use Rattle.ga_picture.specs.inner.{ExecutesLineSilently};
 
     ghost answers = { λ m line said new. ExecutesLineSilently m.explorer m.short line said new.explorer new.short };

@@ -14,7 +14,7 @@ use Rattle.ga_node.specs.Table.{refusal_of_own_event}
 use Rattle.ga_node.specs.declared.kind.OwnEventKind.{OwnEventKind}
 use Rattle.ga_grid.specs.declared.node_id.NodeId.{NodeId}
 use Rattle.ga_grid.specs.Chip.{node_record_at}
-use Rattle.ga_scheduler.specs.declared.condition.Condition.TheVariants.{Never, PassesWord, PassesNthWord, MakesNumberedStep, AnyNodeStops, GivenNodeStops, GivenNodeWaits, HoldsPlaceValue, ReachesAddress, WritesRamCell}
+use Rattle.ga_scheduler.specs.declared.condition.Condition.TheVariants.{Never, PassesWord, PassesNthWord, MakesNumberedStep, AnyNodeStops, GivenNodeStops, GivenNodeWaits, HoldsPlaceValue, ReachesAddress, WritesRamCell, Broken}
 use Rattle.ga_scheduler.specs.declared.watching.Needs.{Needs}
 use Rattle.ga_scheduler.specs.inner.{AreLinkCountsKnown, is_needed_opcode, is_needed_slot_next, event_lacks_needs, NeedsCoverCondition, NeedsCoverConditions}
 
@@ -85,6 +85,7 @@ guarded false x h = refl
 -- Where more is needed, what was needed is.
 pub covers_more : (a b : Needs) (one : Condition) → NeedsCoverCondition a one → a.opcodes ≤ b.opcodes → (a.slot ≡ 4 → b.slot ≡ 4) → NeedsCoverCondition b one
 covers_more a b Never h more fetches = tt
+covers_more a b Broken h more fetches = tt
 covers_more a b (PassesWord writer reader comparison word) h more fetches = tt
 covers_more a b (PassesNthWord writer reader number) h more fetches = tt
 covers_more a b (MakesNumberedStep node step) h more fetches = omega (arith, h, more)
@@ -173,6 +174,7 @@ writes_not false s w off = refl
 held_own : (needs : Needs) (one : Condition) (s : MachineState) (node : NodeId) (step : ℕ) (what : OwnEventKind) → NeedsCoverCondition needs one → event_lacks_needs needs (node_record_at (chip_of_machine s) node.number) what ≡ true
     → holds_after_made_event one (made.Own node step what) s ≡ false
 held_own needs Never s node step what h off = refl
+held_own needs Broken s node step what h off = refl
 held_own needs (PassesWord writer reader comparison word) s node step what h off = refl
 held_own needs (PassesNthWord writer reader number) s node step what h off = refl
 held_own needs (MakesNumberedStep at k) s node step what h off = absurd (none_lacks needs (node_record_at (chip_of_machine s) node.number) what h off)

@@ -5,6 +5,7 @@ use Rattle.ga_event.specs.declared.made.MadeEvent.{MadeEvent}
 use Rattle.ga_event.specs.declared.made.MadeEvent.TheVariants as made
 use Rattle.ga_scheduler.specs.declared.words.Transfer.{Transfer}
 use Rattle.ga_scheduler.specs.Words.{transfer_of_event, transfers_over_link_by_event, numbered_transfers, is_transfer_over_link, scanned_link_end, link_transfer_count}
+use Rattle.ga_scheduler.specs.Tested.{IsRunStep}
 use Rattle.std.proofs.lemmas.Option.{none-some}
 use Rattle.ga_grid.specs.declared.node_id.NodeId.{NodeId}
 use Rattle.ga_event.specs.declared.event.Event.{Event}
@@ -221,7 +222,7 @@ none_over : (s : MachineState) (e : Event) (w r : ℕ) → touches e w ≡ false
 none_over s (event.Own n) w r h = refl
 none_over s (event.Pass a b side) w r h = other_writer (a.number == w) _ (b.number == r) h
 
-told_behind : (s : MachineState) (e : Event) → IsSome (replay s.load s.kept) → event_refusal (chip_of_machine s) e ≡ None
+pub told_behind : (s : MachineState) (e : Event) → IsSome (replay s.load s.kept) → event_refusal (chip_of_machine s) e ≡ None
     → machine_events_with_outcomes (machine_with_event s (Ok e)) ≡ machine_events_with_outcomes s ++ (event_with_look_on_chip (chip_of_machine s) e, (event_result (chip_of_machine s) e).1) ∷ []
 told_behind s e some can =
     let r : Runs s = runs_of s some in
@@ -297,3 +298,9 @@ pub few_more : (until : Condition) (link : NodeId × NodeId) (s : MachineState) 
 few_more until link s m words is h =
     let here : link_transfer_count s link.0.number link.1.number ≡ words + transfers_over_link_by_event link.0.number link.1.number m = subst (λ o. optional_link_transfer_count o s ≡ words + transfers_added_by_event o m) (sym is) h in
     omega (arith, here, few_words link.0.number link.1.number (history_of_node s link.0.number))
+
+-- a step of a run
+pub run_step_counts : (old new : MachineState) (made : MadeEvent) → IsRunStep old new made → (writer reader : ℕ)
+    → link_transfer_count new writer reader ≡ link_transfer_count old writer reader + transfers_over_link_by_event writer reader made
+run_step_counts old new made h writer reader =
+    ap (λ (z : MachineState). link_transfer_count z writer reader) h.moved ∙ counted_step old h.node made h.replays h.told writer reader

@@ -17,7 +17,7 @@ use Rattle.ga_scheduler.specs.Words.{is_transfer_over_link, link_transfer_count}
 use Rattle.ga_scheduler.specs.Values.{is_comparison_satisfied, is_value_test_passed}
 use Rattle.ga_scheduler.specs.declared.value_test.Comparison.{Comparison}
 use Rattle.ga_scheduler.specs.declared.condition.Condition.{Condition}
-use Rattle.ga_scheduler.specs.declared.condition.Condition.TheVariants.{Never, PassesWord, PassesNthWord, MakesNumberedStep, AnyNodeStops, GivenNodeStops, GivenNodeWaits, HoldsPlaceValue, ReachesAddress, WritesRamCell}
+use Rattle.ga_scheduler.specs.declared.condition.Condition.TheVariants.{Never, PassesWord, PassesNthWord, MakesNumberedStep, AnyNodeStops, GivenNodeStops, GivenNodeWaits, HoldsPlaceValue, ReachesAddress, WritesRamCell, Broken}
 
 -- the event passed a word from the writer to the reader that compares so with this one
 abbrev pub passes_matching_word : ℕ → ℕ → Comparison → ℕ → MadeEvent → Bool
@@ -96,9 +96,10 @@ is_requested_word None word = true
 is_requested_word (Some asked) word = word == asked
 
 -- The condition holds right after this was made, where the machine is this. Memory from address 80 hexadecimal on is ROM, where no
--- event stores.
+-- event stores. Which expectations an event broke, only a test that has them knows.
 abbrev pub holds_after_made_event : Condition → MadeEvent → MachineState → Bool
 holds_after_made_event Never told s = false
+holds_after_made_event Broken told s = false
 holds_after_made_event (PassesWord writer reader comparison word) told s = passes_matching_word writer.number reader.number comparison word told
 holds_after_made_event (PassesNthWord writer reader number) told s = is_transfer_over_link writer.number reader.number told && (link_transfer_count s writer.number reader.number == number)
 holds_after_made_event (MakesNumberedStep node step) told s = is_numbered_step_of_node node.number step told
@@ -119,6 +120,7 @@ first_holding_condition (until ∷ others) told s = if holds_after_made_event un
 -- the condition holds never
 abbrev pub never_holds : Condition → Bool
 never_holds Never = true
+never_holds Broken = false
 never_holds (PassesWord writer reader comparison word) = false
 never_holds (PassesNthWord writer reader number) = false
 never_holds (MakesNumberedStep node step) = false

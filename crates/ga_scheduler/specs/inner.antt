@@ -6,7 +6,7 @@ use Rattle.ga_event.specs.Told.{made_event_at_place}
 use Rattle.ga_event.specs.declared.made.MadeEvent.{MadeEvent}
 use Rattle.ga_lab.specs.Machine.{MachineState, machine_events_with_outcomes, earlier_state}
 use Rattle.ga_scheduler.specs.declared.condition.Condition.{Condition}
-use Rattle.ga_scheduler.specs.declared.condition.Condition.TheVariants.{HoldsPlaceValue, ReachesAddress, WritesRamCell, PassesNthWord, PassesWord, MakesNumberedStep, AnyNodeStops, GivenNodeStops, GivenNodeWaits, Never}
+use Rattle.ga_scheduler.specs.declared.condition.Condition.TheVariants.{HoldsPlaceValue, ReachesAddress, WritesRamCell, PassesNthWord, PassesWord, MakesNumberedStep, AnyNodeStops, GivenNodeStops, GivenNodeWaits, Never, Broken}
 use Rattle.ga_scheduler.specs.Conditions.{holds_after_made_event, passes_matching_word, is_numbered_step_of_node, is_own_event_of_kind, is_node_own_event_of_kind, is_stop_event_kind, is_wait_event_kind}
 use Rattle.ga_scheduler.specs.Backward.{is_step_of_optional_node}
 use Rattle.std.specs.List.{slice_get}
@@ -176,6 +176,7 @@ event_lacks_needs needs n (kind.Stop code) = false
 -- what a condition needs is among the needs
 abbrev pub NeedsCoverCondition : Needs → Condition → Type 0
 NeedsCoverCondition needs Never = Unit
+NeedsCoverCondition needs Broken = Unit
 NeedsCoverCondition needs (PassesWord writer reader comparison word) = Unit
 NeedsCoverCondition needs (PassesNthWord writer reader number) = Unit
 NeedsCoverCondition needs (MakesNumberedStep node step) = 256 ≤ needs.opcodes

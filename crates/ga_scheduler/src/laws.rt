@@ -5,6 +5,10 @@ ghost use Rattle.ga_grid.specs.declared.node_id.NodeId.{NodeId};
 ghost use Rattle.ga_event.specs.Told.{made_event_at_place};
 ghost use Rattle.ga_causal.specs.Dependence.{position_of_step};
 ghost use Rattle.ga_lab.specs.Machine.{MachineState, initial_state, machine_events_with_looks, machine_events_with_outcomes, earlier_state};
+ghost use Rattle.ga_event.specs.declared.made.MadeEvent.{MadeEvent};
+ghost use Rattle.ga_scheduler.specs.Words.{link_transfer_count, transfers_over_link_by_event};
+ghost use Rattle.ga_scheduler.specs.Oldest.{find_oldest_matching_event, IsOldestMatchingEvent};
+ghost use Rattle.ga_scheduler.specs.Tested.{IsRunStep};
 ghost use Rattle.ga_scheduler.specs.Backward.{has_condition_held_at, find_newest_matching_event, IsNewestMatchingEvent, event_count_removed_by_back_until, step_number_of_event, machine_after_undos};
 ghost use Rattle.ga_scheduler.specs.Running.{ScheduledMachine, run_after_events, HasNoConditionHeld, HasRunEnded};
 ghost use Rattle.ga_scheduler.specs.declared.condition.Condition.{Condition};
@@ -62,4 +66,19 @@ pub fn back_until_undoes_match()
 #[tactic(auto, using(crate::proofs::Backing::undone_from))]
 pub fn undos_reach_position()
     ensures { (s : MachineState) (place : ℕ) → place ≤ length s.kept → machine_after_undos (length s.kept - place) s ≡ earlier_state s place }
+{}
+
+/// The result of a search for the oldest event is the oldest after which one of the conditions held; without a result there is none.
+#[tactic(auto, using(crate::proofs::OldestLaws::some_oldest, crate::proofs::OldestLaws::none_oldest))]
+pub fn oldest_event_is_found()
+    ensures some { (until : List Condition) (s : MachineState) (place : ℕ) → find_oldest_matching_event until s ≡ Some place → IsOldestMatchingEvent until s place }
+    ensures none { (until : List Condition) (s : MachineState) → find_oldest_matching_event until s ≡ None →
+        (place : ℕ) → place < length s.kept → has_condition_held_at until None s place ≡ false }
+{}
+
+/// A step of a run adds the words that its event carried over a link to those in the history.
+#[tactic(auto, using(crate::proofs::WordCounts::run_step_counts))]
+pub fn run_steps_count_words()
+    ensures { (old new : MachineState) (made : MadeEvent) → IsRunStep old new made → (writer reader : ℕ) →
+        link_transfer_count new writer reader ≡ link_transfer_count old writer reader + transfers_over_link_by_event writer reader made }
 {}

@@ -9,10 +9,12 @@ mod event_tests;
 mod idle;
 pub mod laws;
 mod numbers;
+mod oldest;
 mod ready;
 mod reverse_search;
 mod running;
 mod schedule;
+mod tested;
 mod value_test;
 mod watch;
 mod watched;
@@ -26,12 +28,17 @@ pub use event_tests::{
     is_step_of_node, is_stop_event, passes_matching_word, stores_in_cell,
 };
 pub use idle::find_idle_nodes;
-pub use reverse_search::{find_newest_matching_event, undo_until_condition};
+pub use oldest::{earlier_place, find_oldest_matching_event};
+pub use ready::is_quiescent;
+pub use reverse_search::{
+    back_to_place, find_newest_matching_event, is_step_of_optional_node, undo_until_condition,
+};
 pub use running::{RunEnd, RunResult, run_schedule};
 pub use schedule::{Schedule, ScheduleOrder};
+pub use tested::{RunTest, run_tested};
 pub use value_test::{Comparison, NodeValue, ValueTest};
 pub use watch::StopCondition;
 pub use watched::{WatchedRun, WatchedRunEnd, has_newest_event_stored_in_cell, run_watched};
 pub use watching::{MAX_CONDITIONS, conditions_before_never};
-pub use words::telling::count_transfers;
+pub use words::telling::{count_transfers, count_transfers_after, is_transfer_over_link};
 pub use words::{Transfer, TransferIter};

@@ -1,11 +1,12 @@
 //! The nodes that have an event, kept so that a node is looked at again only where a wait or a stop around it changed.
 
-ghost use Rattle.std.specs.Prelude.{◌≡◌, ◌<◌, ◌≤◌, ℕ, true, false, Some, IfSome, IfNone};
+ghost use Rattle.std.specs.Prelude.{◌≡◌, ◌<◌, ◌≤◌, ◌↔◌, ℕ, true, false, Some, IfSome, IfNone, IsTrue};
 ghost use Rattle.ga_grid.specs.Chip.{records_of_chip};
 ghost use Rattle.ga_grid.specs.Grid.{neighbour_number};
 ghost use Rattle.ga_scheduler.specs.inner.{is_number_in_set, IsReadinessCorrectInSet, HoldsExactlyReadyNodes, KeepsReadySetRight, IsReadySetRightAround, IsReadySetRefreshed, IsOnlyReadyNode, IsReadySetKnowledgeTrue, is_random_order};
 ghost use Rattle.ga_scheduler.specs.Schedules.{next_scheduled_node};
 ghost use Rattle.ga_races.specs.Orders.{first_node_from_that_passes_test};
+ghost use Rattle.ga_scheduler.specs.Running.{IsQuiescent};
 
 use crate::drawing::{Known, draw_node};
 use crate::numbers::NumberSet;
@@ -57,6 +58,18 @@ pub(crate) fn ready_nodes(chip: &Chip) -> NumberSet
         look(&mut ready, chip, NodeId::new(number));
     }
     ready
+}
+
+/// Whether no node has an event.
+pub fn is_quiescent(chip: &Chip) -> bool
+    ensures { IsTrue result ↔ IsQuiescent (records_of_chip chip.now) }
+{
+    for number in 0..CHIP_NODE_COUNT as u8 {
+        if next_event(chip, NodeId::new(number)).is_ok() {
+            return false;
+        }
+    }
+    true
 }
 
 // Looks at what an event that was made may have changed. Then nothing is known of the nodes any more.

@@ -5,3 +5,11 @@ pub mod Meeting
 pub mod Sides
 pub mod Sources
 pub mod Unmet
+pub mod Breaches
+pub mod BreachLaws
+pub mod KnownBreaches
+pub mod NewestBreach
+pub mod LinkStatuses
+pub mod StuckNodes
+pub mod LinkCounts
+pub mod Tested

@@ -1,9 +1,13 @@
+pub mod Breaking
 pub mod Expectations
 pub mod Faults
 pub mod Lines
 pub mod Spelling
+pub mod Observations
 pub mod Recurrent
 pub mod Sources
+pub mod Statuses
 pub mod Unmet
+pub mod Violations
 pub mod Meeting
 pub mod inner

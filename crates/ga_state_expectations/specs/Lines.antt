@@ -1,6 +1,6 @@
 -- What the lines of a source expect (docs/REFERENCE.md, "Expectations"; this project's own): of each node in whose program a line is, unless the
 -- line names another node or speaks of all.
-use Rattle.std.specs.Prelude.{ℕ, zero, suc, ◌≡◌, Bool, true, false, ◌&&◌, ◌||◌, not, if◌then◌else◌, List, [], ◌∷◌, ◌++◌, flat_map, position, slice_get, codes, bytes_eq, Option, Some, None, option_and_then, is_some, Result, Ok, Err}
+use Rattle.std.specs.Prelude.{ℕ, zero, suc, ◌≡◌, ◌==◌, length, Bool, true, false, ◌&&◌, ◌||◌, not, if◌then◌else◌, List, [], ◌∷◌, ◌++◌, flat_map, position, slice_get, codes, bytes_eq, Option, Some, None, option_and_then, is_some, Result, Ok, Err}
 use Rattle.ga_text.specs.Lines.{Text}
 use Rattle.ga_text.specs.Digits.{name_of_node}
 use Rattle.ga_grid.specs.declared.node_id.NodeId.{NodeId}
@@ -120,3 +120,15 @@ source_expectations notes = expectations_or_faults_of_lines notes (expectation_l
 abbrev pub HoldsForExpectationFaults : ExpectationsError → (List ExpectationFault → Type 0) → Type 0
 HoldsForExpectationFaults Memory P = Unit {0}
 HoldsForExpectationFaults (FaultyLines faults) P = P faults.items
+
+abbrev pub expectations_if_known : Result (List LineExpectationContent) (List ExpectationFault) → List LineExpectationContent
+expectations_if_known (Ok expectations) = expectations
+expectations_if_known (Err faults) = []
+
+-- what a source expects; nothing if a line of it has a fault
+abbrev pub known_expectations : Option DebugInfo → List LineExpectationContent
+known_expectations notes = expectations_if_known (source_expectations notes)
+
+-- no line of the source says what is expected
+abbrev pub expects_nothing : Option DebugInfo → Bool
+expects_nothing notes = length (expectation_lines_of_source notes) == 0

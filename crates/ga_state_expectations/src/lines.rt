@@ -3,7 +3,7 @@
 ghost use Rattle.std.specs.Prelude.{◌≡◌, ◌++◌, map, flat_map, position, Ok, Err, IfOk, OnOk, MatchResult};
 ghost use Rattle.ga_text.specs.Digits.{name_of_node};
 ghost use Rattle.ga_state_expectations.specs.Spelling.{split_first_word, parsed_expectation};
-ghost use Rattle.ga_state_expectations.specs.Lines.{expectation_lines_of_source, source_expectations, names_expectation_subject, applies_to_nodes_of_own_program, is_expectation_faulty_for_node, expectation_parse_fault_cause, first_faulty_node_cause, line_expectation_fault_cause, expectation_faults_of_line, expectation_faults_of_lines, text_after_node_name, line_expectation_content, line_expectation_if_parsed, line_expectations_for_node, line_expectations, expectations_of_source_lines, expectations_or_faults_of_lines, HoldsForExpectationFaults};
+ghost use Rattle.ga_state_expectations.specs.Lines.{expectation_lines_of_source, source_expectations, names_expectation_subject, applies_to_nodes_of_own_program, is_expectation_faulty_for_node, expectation_parse_fault_cause, first_faulty_node_cause, line_expectation_fault_cause, expectation_faults_of_line, expectation_faults_of_lines, text_after_node_name, line_expectation_content, line_expectation_if_parsed, line_expectations_for_node, line_expectations, expectations_of_source_lines, expectations_or_faults_of_lines, known_expectations, expects_nothing, HoldsForExpectationFaults};
 
 use crate::cause::{ExpectationFault, ExpectationFaultCause, ExpectationsError};
 use crate::parsing::{begins_with_digit, is_whole_chip_keyword, parse_expectation};
@@ -269,4 +269,28 @@ pub fn parse_expectations(
         (λ why. HoldsForExpectationFaults why (λ faults. source_expectations notes.now ≡ Err faults)) }
 {
     parse_lines(alloc, notes, expectation_lines_of_source(notes))
+}
+
+/// What a source expects, as [`parse_expectations`] gives it; nothing if a line of it has a fault.
+///
+/// # Errors
+/// Out of memory.
+pub fn known_expectations(
+    alloc: Global,
+    notes: &Option<DebugInfo>,
+) -> Result<Vec<LineExpectation>, AllocError>
+    ensures { IfOk result (λ all. map line_expectation_content all.items ≡ known_expectations notes.now) }
+{
+    match parse_expectations(alloc, notes) {
+        Ok(all) => Ok(all),
+        Err(ExpectationsError::Memory) => Err(AllocError),
+        Err(ExpectationsError::FaultyLines(_)) => Ok(Vec::new(alloc)),
+    }
+}
+
+/// Whether a source expects nothing.
+pub fn expects_nothing(notes: &Option<DebugInfo>) -> bool
+    ensures { result ≡ expects_nothing notes.now }
+{
+    expectation_lines_of_source(notes).is_empty()
 }

@@ -25,7 +25,7 @@ Commands (NNN is a node, three decimal digits; K a step, counted from 1; HH two 
 
 Exit status: 0 done, 1 image refused, 2 a stream failed, 3 command line refused.";
 
-/// What `ga144 explore --help` writes after the options. `{commands}` is replaced by the lines of the queries.
+/// What `ga144 explore --help` writes after the options. `{commands}` is replaced by the lines of its commands.
 const EXPLORING: &str = "\
 Reads an image or source (up to its line `end`) from FILE, or from standard input without FILE, and then commands from standard
 input; it has each command of debug. At a terminal: ga144 explore fault.f18
@@ -33,11 +33,6 @@ input; it has each command of debug. At a terminal: ga144 explore fault.f18
 A FILE of source needs no line `end`. Lines of FILE after its line `end` are read as the first commands.
 
 Further commands (NNN and MMM are nodes, K is a step, HH two and X six hexadecimal digits):
-  run [N] [until COND]   make events in rounds, at most N: each node that has an event makes one, in the order of their names
-  run greedy ..          each node as long as it has an event
-  run random SEED ..     nodes drawn by a generator with this seed
-  back until COND        undo the newest event after which COND held, and all later ones
-  back NNN until COND    roll back the newest such step of NNN, with its dependents
 {commands}
 
 COND is one of:
@@ -51,6 +46,7 @@ COND is one of:
   p NNN X                P of NNN is X
   reach NNN X            NNN fetches next, at X
   change NNN HH [= N]    NNN wrote at that address, or wrote N
+  broken                 an expectation of the source was broken
 COND or COND ..          ends at the first that holds
 VALUE: t s r p a b i, d2 to d9, r1 to r8, io, slot, carry, step, [HH]   OP: = != < <= > >=
 N in COND: 12, -3, 0x1f, six hexadecimal digits, a port, a label        X: also a label, or line L

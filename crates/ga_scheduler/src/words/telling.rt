@@ -1,6 +1,6 @@
 //! Listing the words of a link one after another, and counting them. A word is in the steps of both ends of the link.
 
-ghost use Rattle.std.specs.Prelude.{◌≡◌, ◌≤◌, option_to_list};
+ghost use Rattle.std.specs.Prelude.{◌≡◌, ◌≤◌, ◌+◌, option_to_list};
 ghost use Rattle.ga_lab.specs.Machine.{history_of_node};
 ghost use Rattle.ga_scheduler.specs.Words.{scanned_link_end, link_transfers, numbered_transfers, transfer_of_event, is_transfer_over_link, transfers_over_link_by_event, link_transfer_count};
 
@@ -24,8 +24,8 @@ fn scanned_link_end(by_reader: bool, writer: NodeId, reader: NodeId) -> NodeId
     if by_reader { reader } else { writer }
 }
 
-// Whether the event carried a word over the link.
-pub(crate) fn is_transfer_over_link(made: &MadeEvent, writer: NodeId, reader: NodeId) -> bool
+/// Whether the event carried a word over the link.
+pub fn is_transfer_over_link(made: &MadeEvent, writer: NodeId, reader: NodeId) -> bool
     ensures { result ≡ is_transfer_over_link writer.number reader.number made.now }
 {
     match made {
@@ -63,6 +63,23 @@ pub fn count_transfers(lab: &Lab, writer: NodeId, reader: NodeId) -> u32
         }
     }
     words
+}
+
+/// How many words went from the writer to the reader right after the newest event, given how many had before. Takes the same time whatever the history is.
+pub fn count_transfers_after(
+    lab: &Lab,
+    before: u32,
+    made: &MadeEvent,
+    writer: NodeId,
+    reader: NodeId,
+) -> u32
+    requires { link_transfer_count lab.now writer.number reader.number ≡ before + transfers_over_link_by_event writer.number reader.number made.now }
+    ensures { result ≡ link_transfer_count lab.now writer.number reader.number }
+{
+    // No more than the writer's steps, so they can be counted.
+    let steps = lab.steps(writer);
+    prove!(steps <= u32::MAX);
+    before + transfers_over_link_by_event(made, writer, reader)
 }
 
 // The word that an event carried over the link, with this number.

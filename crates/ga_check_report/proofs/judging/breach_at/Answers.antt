@@ -1,7 +1,7 @@
 use Rattle.std.proofs.Common.{ap}
 use Rattle.std.proofs.lemmas.Option.{slice_get_within}
 use Rattle.ga_grid.specs.Chip.{records_of_chip}
-use Rattle.ga_check_report.specs.declared.outcome.NodeObservation.{NodeObservation}
+use Rattle.ga_state_expectations.specs.declared.observation.NodeObservation.{NodeObservation}
 use Rattle.ga_check_report.specs.declared.outcome.Breach.TheVariants.{Unmet}
 use Rattle.ga_check_report.proofs.judging.breach_at.Goals as goal
 

@@ -1,6 +1,7 @@
 use Rattle.std.proofs.Common.{rules, ℕ, List, ◌≡◌, ◌++◌, refl, ap, ◌∙◌}
 use Rattle.ga_text.proofs.WriteLemmas.{truncated_here, truncated_within, cut_assoc, said_assoc}
-use Rattle.ga_check_report.specs.ExpectationTexts.{expectation_line_start, outcome_text, expectation_line}
+use Rattle.ga_explorer_text.specs.Expected.{expectation_line_start}
+use Rattle.ga_check_report.specs.ExpectationTexts.{outcome_text, expectation_line}
 use Rattle.ga_explorer_text.proofs.Saying.{text_as, joined_written}
 use Rattle.ga_check_report.proofs.outcome_text.write_expectation.Goals as goal
 

@@ -5,13 +5,12 @@ use Rattle.ga_text.specs.Output.{IsTextWrittenOrPending}
 use Rattle.ga_console.proofs.AheadLemmas.{quit_part}
 use Rattle.ga_explorer.specs.Answers.{AnswersExplorerLine}
 use Rattle.ga_explorer.specs.Classes.{command_class_of_line}
-use Rattle.ga_explorer.specs.Opening.{ExplorerState}
+use Rattle.ga_explorer.specs.Opening.{ExplorerState, explorer_state}
 use Rattle.ga_explorer.specs.declared.forms.CommandClass.{CommandClass}
 use Rattle.ga_explorer.specs.declared.forms.CommandClass.TheVariants.{Change}
 use Rattle.ga_explorer.proofs.Classes.{no_change_same}
 use Rattle.ga_lab.specs.Machine.{MachineState}
 use Rattle.ga_dap_queries.specs.declared.debuggee.Debuggee.{Debuggee}
-use Rattle.ga_dap.specs.Opening.{program_explorer_state}
 use Rattle.ga_dap.specs.declared.unanswered.NoResponse.{NoResponse}
 use Rattle.ga_dap.specs.declared.unanswered.NoResponse.TheVariants.{Memory, Untold}
 use Rattle.ga_dap.specs.inner.Carrying.{no_response_reason_of_command_class}
@@ -25,10 +24,10 @@ nothing_said items output i o = record { sent = []; held = ap (λ (z : List ℕ)
 no_change : (class : Option CommandClass) (why : NoResponse) → why ≡ no_response_reason_of_command_class class → why ≡ Memory → class ≢ Some Change
 no_change class why e memory = λ is. let untold : why ≡ Untold = e ∙ ap no_response_reason_of_command_class is in absurd (let no : ⊥ = cc in no)
 
-unmoved : (p : Debuggee) (line answer : List ℕ) (lab : MachineState) → AnswersExplorerLine (program_explorer_state p.lab p.source) line answer (program_explorer_state lab p.source)
+unmoved : (p : Debuggee) (line answer : List ℕ) (lab : MachineState) → AnswersExplorerLine (explorer_state p.lab p.source) line answer (explorer_state lab p.source)
     → command_class_of_line line ≢ Some Change → (let new : Debuggee = record p { lab = lab } in new) ≡ p
 unmoved p line answer lab does other_class =
-    ap (λ (z : ExplorerState). let d : Debuggee = record p { lab = z.lab } in d) (no_change_same (program_explorer_state p.lab p.source) line answer (program_explorer_state lab p.source) other_class does)
+    ap (λ (z : ExplorerState). let d : Debuggee = record p { lab = z.lab } in d) (no_change_same (explorer_state p.lab p.source) line answer (explorer_state lab p.source) other_class does)
 
 pub returns-in-Ok-flush-clause-told : goal.returns-in-Ok-flush-clause-told
 returns-in-Ok-flush-clause-told c =
@@ -47,7 +46,7 @@ returns-in-Ok-flush-clause-told c =
     let name : c.flush.new.self.stream.ghost_name ≡ c.new-said.result.stream.ghost_name = ends ∙ goes_on in
     let left = c.answer-in-Ok-Answered-1.given.1 (sym (name ∙ begins)) in (
       refl,
-      subst (λ (z : Text). AnswersExplorerLine (program_explorer_state c.args.program.now.lab c.args.program.now.source) c.args.line.now z (program_explorer_state c.answer_explorer_line.new.lab c.args.program.now.source))
+      subst (λ (z : Text). AnswersExplorerLine (explorer_state c.args.program.now.lab c.args.program.now.source) c.args.line.now z (explorer_state c.answer_explorer_line.new.lab c.args.program.now.source))
           (sym whole ∙ ap (λ v. v.items) (sym left)) part.0,
       part.1,
     )

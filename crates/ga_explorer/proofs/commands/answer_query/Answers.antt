@@ -19,7 +19,7 @@ pub returns-in-Whence-clause-said : goal.returns-in-Whence-clause-said
 returns-in-Whence-clause-said g c = record {
   meant = question.Whence c.in-Whence.node c.in-Whence.which c.in-Whence.value c.in-Whence.first;
   is = c.in-Whence.is;
-  said = rw (← c.resolve-step-in-Whence.ensures, ← c.part_of.ensures.value) c.write_provenance_answer.ensures;
+  said = rw (← c.resolve-step-in-Whence.ensures, ← c.part_of_value.ensures.value) c.write_provenance_answer.ensures;
 }
 
 pub returns-in-Because-clause-said : goal.returns-in-Because-clause-said

@@ -1,6 +1,6 @@
 use Rattle.std.proofs.Common.{rules, ◌++◌, refl}
 use Rattle.ga_text.proofs.WriteLemmas.{truncated_here}
-use Rattle.ga_explorer.specs.inner.{explorer_state}
+use Rattle.ga_explorer.specs.Opening.{explorer_state}
 use Rattle.ga_explorer.proofs.LineAnswers.{explored_line, explored_err, debugged_turn}
 use Rattle.ga_explorer.proofs.explorer.answer_explorer_line.Goals as goal
 

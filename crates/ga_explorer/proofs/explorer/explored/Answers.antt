@@ -1,7 +1,7 @@
 use Rattle.std.proofs.Common.{rules, sym, ap, subst}
 use Rattle.ga_explorer.specs.Changes.{change_result_text}
 use Rattle.ga_explorer.specs.Commands.{AnswersQuery}
-use Rattle.ga_explorer.specs.inner.{explorer_state}
+use Rattle.ga_explorer.specs.Opening.{explorer_state}
 use Rattle.ga_explorer.specs.declared.commands.ExplorerCommand.TheVariants as command
 use Rattle.ga_explorer.proofs.Done.{answered, changed}
 use Rattle.ga_explorer.proofs.explorer.explored.Goals as goal

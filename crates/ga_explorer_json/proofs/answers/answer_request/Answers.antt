@@ -1,5 +1,5 @@
 use Rattle.std.proofs.Common.{refl}
-use Rattle.ga_explorer.specs.inner.{explorer_state}
+use Rattle.ga_explorer.specs.Opening.{explorer_state}
 use Rattle.ga_explorer_json.specs.Answers.{AnswersCommandJson, AnswersLineRequest}
 use Rattle.ga_explorer_json.specs.Texts.{long_line_refusal_json, syntax_refusal_of_line}
 use Rattle.ga_explorer_json.specs.declared.answers.LineRequest.TheVariants as request

@@ -1,7 +1,7 @@
 use Rattle.std.proofs.Common.{ap, subst}
 use Rattle.ga_json.specs.Compact.{json_line}
 use Rattle.ga_explorer.specs.Changes.{change_name}
-use Rattle.ga_explorer.specs.inner.{explorer_state}
+use Rattle.ga_explorer.specs.Opening.{explorer_state}
 use Rattle.ga_explorer.specs.declared.commands.ExplorerCommand.TheVariants as command
 use Rattle.ga_explorer_json.specs.Answers.{AnswersExplorerJson}
 use Rattle.ga_explorer_json.specs.Changes.{change_result_json}

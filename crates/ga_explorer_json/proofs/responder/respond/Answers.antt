@@ -4,7 +4,7 @@ use Rattle.ga_text.specs.declared.output.WriteError.{WriteError}
 use Rattle.ga_text.proofs.WriteLemmas.{at_err, truncated_here, truncated_more, said_cut}
 use Rattle.ga_console.specs.declared.responder.LineAction.{LineAction}
 use Rattle.ga_console.proofs.RunLemmas.{written_fresh}
-use Rattle.ga_explorer.specs.inner.{explorer_state}
+use Rattle.ga_explorer.specs.Opening.{explorer_state}
 use Rattle.ga_explorer_json.specs.inner.{RespondsToLineRequest}
 use Rattle.ga_explorer_json.proofs.Turns.{responded}
 use Rattle.ga_explorer_json.proofs.responder.respond.Goals as goal

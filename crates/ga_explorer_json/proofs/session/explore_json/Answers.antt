@@ -2,8 +2,7 @@ use Rattle.std.proofs.Common.{rules, Bool, length, ℕ, ◌-◌, List, [], ◌++
 use Rattle.std.proofs.lemmas.List.{append-nil}
 use Rattle.ga_console.specs.Session.{ServesCommandsWithLimitRefusal}
 use Rattle.ga_console.proofs.RunLemmas.{written_fresh}
-use Rattle.ga_explorer.specs.Opening.{IsTextBeforeCommands, ExplorerState}
-use Rattle.ga_explorer.specs.inner.{explorer_state}
+use Rattle.ga_explorer.specs.Opening.{IsTextBeforeCommands, ExplorerState, explorer_state}
 use Rattle.ga_explorer_json.specs.Session.{AnswersJsonAndContinues, AnswersJsonAndEndsSession, long_input_refusal_line}
 use Rattle.ga_explorer_json.specs.Session.RunsJsonExplorer.{served, unbegun}
 use Rattle.ga_explorer_json.proofs.session.explore_json.Goals as goal

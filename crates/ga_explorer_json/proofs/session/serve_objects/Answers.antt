@@ -5,7 +5,7 @@ use Rattle.ga_text.proofs.WriteLemmas.{at_err}
 use Rattle.ga_json.specs.Compact.{json_line}
 use Rattle.ga_console.specs.Session.{ServesCommandsWithLimitRefusal, IsWholeOrPrefixOnWriteError}
 use Rattle.ga_console.specs.declared.commands.CommandsEnd.{CommandsEnd}
-use Rattle.ga_explorer.specs.inner.{explorer_state}
+use Rattle.ga_explorer.specs.Opening.{explorer_state}
 use Rattle.ga_explorer.proofs.Prompted.{written_on, prefix_on}
 use Rattle.ga_explorer_json.specs.Session.{session_ready_json, long_input_refusal_line, AnswersJsonAndContinues, AnswersJsonAndEndsSession}
 use Rattle.ga_explorer_json.proofs.Turns.{GoesOn, EndsThere, serves_objects, nothing_served}

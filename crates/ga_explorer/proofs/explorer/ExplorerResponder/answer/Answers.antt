@@ -2,8 +2,7 @@ use Rattle.std.proofs.Common.{rules, subst}
 use Rattle.ga_console.specs.Session.{AnswersOrQuitsLine, NeverAnswersAndEnds}
 use Rattle.ga_console.proofs.Ending.{answers_or_ends}
 use Rattle.ga_explorer.specs.Answers.{AnswersExplorerLine}
-use Rattle.ga_explorer.specs.Opening.{ExplorerState}
-use Rattle.ga_explorer.specs.inner.{explorer_state}
+use Rattle.ga_explorer.specs.Opening.{ExplorerState, explorer_state}
 use Rattle.ga_explorer.proofs.explorer.ExplorerResponder.answer.Goals as goal
 
 pub returns : goal.returns

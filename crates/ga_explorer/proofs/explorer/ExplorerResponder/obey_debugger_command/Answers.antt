@@ -9,9 +9,8 @@ use Rattle.ga_console.specs.Session.{NeverAnswersAndEnds}
 use Rattle.ga_console.specs.inner.Run.{AnswersCommandOrEnds}
 use Rattle.ga_console.specs.declared.responder.LineAction.{LineAction}
 use Rattle.ga_explorer.specs.Answers.{AnswersExplorerLine}
-use Rattle.ga_explorer.specs.Opening.{ExplorerState}
+use Rattle.ga_explorer.specs.Opening.{ExplorerState, explorer_state}
 use Rattle.ga_explorer.specs.Answers.AnswersExplorerLine.{debugged}
-use Rattle.ga_explorer.specs.inner.{explorer_state}
 use Rattle.ga_explorer.proofs.LineAnswers.{debugger_alone}
 use Rattle.ga_explorer.proofs.explorer.ExplorerResponder.obey_debugger_command.Goals as goal
 
