@@ -12,6 +12,6 @@ def apt(*words):
 
 
 def is_available(packages, is_installed, may_install=True):
-    """Whether something is installed, which a function tells, or apt can install it by its packages."""
+    """Whether something is installed, which a function checks, or apt can install it by its packages."""
     install = ["install", "--no-install-recommends", *packages.split(" ")]
     return is_installed() or may_install and apt("update") and apt(*install, "--download-only") and apt(*install, "--no-download") and is_installed()

@@ -1,4 +1,4 @@
-"""How the expectations of a source stand in a session, and which events break one. Part of the reference model, for docs/REFERENCE.md, "Expectations in a
+"""The status of each expectation of a source in a session, and the events that break one. Part of the reference model, for docs/REFERENCE.md, "Expectations in a
 session"."""
 
 from conditions import number_in
@@ -37,12 +37,12 @@ class SessionExpectations:
         return [number_of(it.split(" ")[1]) for line in self.lines if line.words[0] == "never" for it in self.parts(line) if it.startswith("change ")]
 
     def is_broken_by(self, machine, told, before):
-        """Whether the event with this text, the newest of the machine, breaks an expectation: none before it goes against that."""
+        """Whether the event with this text, the newest of the machine, breaks an expectation: none before it violates that."""
         lines = [line for line in self.lines if self.breaks(line, machine, told, before)]
         return bool(lines) and any(self.first_place(line, machine) == len(machine.events) - 1 for line in lines)
 
     def first_place(self, line, machine):
-        """The place of the first event that goes against an expectation, or None."""
+        """The place of the first event that violates an expectation, or None."""
         places = machine.places_where(lambda again, told, before: self.breaks(line, again, told, before))
         return next(places, None)
 
@@ -52,7 +52,7 @@ class SessionExpectations:
         return max((it for it in places if it is not None and only in (None, *machine.events[it])), default=None)
 
     def breaks(self, line, machine, told, before):
-        """Whether the event goes against an expectation."""
+        """Whether the event violates an expectation."""
         if line.node is None and line.words[0] == "never":
             return any(machine.holds(it, told, before) for it in self.parts(line))
         if line.node is None and line.words[0] == "pass" and told.startswith("pass "):

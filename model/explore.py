@@ -36,7 +36,7 @@ def command(*row):
     return lambda method: method
 
 
-# what the words of a form stand for, with an example; one in brackets may be missing
+# what the words of a form mean, with an example; one in brackets may be missing
 VALUE = "VALUE"
 KINDS = {
     "NNN": (NODE, "000"), "MMM": (NODE, "001"), "K": (STEP, "1"), "HH": (HH, "00"), "N": ("[1-9]?[0-9]", "2"), "L": ("[1-9][0-9]{0,9}", "1"),
@@ -685,7 +685,7 @@ class Explorer(Machine):
         return "\n".join([f"races {len(lines)}"] + lines + last)
 
     @command(
-        "expectations", QUERY, "how each line expect of the source stands",
+        "expectations", QUERY, "the status of each line expect of the source",
         "for each whether it is held, broken and by what, or pending: it depends on what comes or on other orders", "expectations", 6,
     )  # fmt: skip
     def answer_expectations(self):

@@ -113,7 +113,7 @@ class SessionText:
 
     @staticmethod
     def status_text(row):
-        """How an expectation stands, and what breaks it."""
+        """The status of an expectation, and what breaks it."""
         if row["outcome"] != "broken":
             assert row["because"] is None
             return row["outcome"]

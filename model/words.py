@@ -230,7 +230,7 @@ class Words:
                 self.word()
 
     def unfinished(self):
-        """The faults of control words that are open and of labels that stand nowhere."""
+        """The faults of control words that are open and of labels that are nowhere."""
         open_ones = [fault(line, "this is never closed") for _, _, line in self.open]
         return open_ones + [unknown(line, label) for line, label in self.named if label not in self.marked]
 

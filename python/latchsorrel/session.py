@@ -124,7 +124,7 @@ class Session:
         return self._spelled("step", node)
 
     def run(self, events: int | None = None, *, until: str | None = None, order: str | None = None) -> Answer:
-        """Makes events, at most so many, until a condition holds, as "stop" or "001 t = 5 or wait 000"; in rounds, or in the order "greedy" or "random 7"."""
+        """Makes events, at most `events`, until a condition holds, as "stop" or "001 t = 5 or wait 000"; in rounds, or in the order "greedy" or "random 7"."""
         return self._spelled("run", order, events, *_until(until))
 
     def back(self, *, until: str | None = None, node: str | None = None) -> Answer:
@@ -194,7 +194,7 @@ class Session:
         return self._spelled("who")
 
     def expectations(self) -> Answer:
-        """How each expectation of the source stands: a row each, whose `outcome` is "held", "broken" or "pending"."""
+        """The status of each expectation of the source: a row each, whose `outcome` is "held", "broken" or "pending"."""
         return self._spelled("expectations")
 
     def chip(self) -> str:

@@ -31,7 +31,7 @@ pub fn assemble_source_in_format<R: Read, W: Write, E: Write>(
     errors: &mut E,
     format: ReportFormat<'_>,
 ) -> Status
-    // Where the streams tell their bytes: what was read, and what was written for it by the status.
+    // Where the streams show their bytes: what was read, and what was written for it by the status.
     ensures { ReadsAndWrites (λ read rest text. WritesAssemblyInFormat format.entry read rest text result)
         (R.remaining reader.old) (R.remaining reader.new) (W.contents writer.old) (W.contents writer.new) }
 {

@@ -35,7 +35,7 @@ pub fn list_source<R: Read, W: Write, E: Write>(
     writer: &mut W,
     errors: &mut E,
 ) -> Status
-    // Where the streams tell their bytes: what was read, and what was written for it by the status.
+    // Where the streams show their bytes: what was read, and what was written for it by the status.
     ensures { ReadsAndWrites (λ read rest text. WritesListing read rest text result)
         (R.remaining reader.old) (R.remaining reader.new) (W.contents writer.old) (W.contents writer.new) }
 {

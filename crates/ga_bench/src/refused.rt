@@ -20,9 +20,9 @@ const REFUSED: u32 = 1000;
 pub enum RunOutcome {
     /// All was answered as it should be.
     Answered,
-    /// This alone was refused for want of memory. It changed nothing, and was answered when it was asked for again.
+    /// This alone was refused for want of memory. It changed nothing, and was answered when it was repeated.
     Refused(&'static str),
-    /// This, with its number, alone was refused for want of memory. It changed nothing, and was answered when it was asked for again.
+    /// This, with its number, alone was refused for want of memory. It changed nothing, and was answered when it was repeated.
     RefusedWithNumber(&'static str, usize),
     /// This is not as it should be.
     Wrong(&'static str),

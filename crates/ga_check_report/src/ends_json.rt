@@ -60,7 +60,7 @@ fn ends_head_fields<'a>(file: &'a [u8], found: &FoundEnds) -> RowFields<'a>
     fields
 }
 
-/// Whether some order goes on for ever, if it is known.
+/// Whether some order never ends, if it is known.
 fn endless_field<'a>(found: &FoundEnds) -> Field<'a>
     ensures { named_field_value result ≡ (codes "endless", optional_text_json (known_endless_path_place_keyword found.now.fault found.now.has_cycle_before found.now.has_cycle)) }
 {
@@ -74,7 +74,7 @@ fn endless_field<'a>(found: &FoundEnds) -> Field<'a>
     }
 }
 
-/// Whether some order goes on for ever, in a word.
+/// Whether some order never ends, in a word.
 fn endless_path_place_keyword(before: bool, cycle: bool) -> &'static [u8]
     ensures { result.now ≡ endless_path_place_keyword before cycle }
 {

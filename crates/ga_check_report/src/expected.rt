@@ -282,7 +282,7 @@ fn tell_outcomes<W: Write>(
     )
 }
 
-/// Writes the expectations with what is known of them, in the format that was asked for.
+/// Writes the expectations with what is known of them, in the requested format.
 ///
 /// # Errors
 /// A write failed.

@@ -43,7 +43,7 @@ pub fn unclean_verdict_is_sound()
         × ((list_any is_unclean found.kinds ≡ true) ⊎ ((request.same ≡ true) × (1 < length found.ends))) × (text ≡ ends_answer request found) }
 {}
 
-/// Where the verdict is `Saved`, the session that is written leads to an end of the kind that was asked for.
+/// Where the verdict is `Saved`, the session that is written leads to an end of the requested kind.
 pub fn session_leads_to_end()
     ensures { (request : CheckRequest) (asked : ℕ) (s : MachineState) (text : Text) → WritesEndsReport request asked s text SessionWritten →
         (found : EndSearchResult) × (last : MachineState) × AreEndsOfChip (chip_of_machine s) found × HasReachedEndOfNumberedKind found asked s last × (text ≡ saved_session_text last) }

@@ -284,7 +284,7 @@ fn tell_made<W: Write>(
     sent(said, Verdict::Unclean, &mut out)
 }
 
-/// Writes the newest event of a lab in the format that was asked for.
+/// Writes the newest event of a lab in the requested format.
 ///
 /// # Errors
 /// A write failed.
@@ -327,7 +327,7 @@ fn unreached_event_verdict(found: &FoundEnds) -> Verdict
     }
 }
 
-/// Writes that no such event was found, in the format that was asked for.
+/// Writes that no such event was found, in the requested format.
 ///
 /// # Errors
 /// A write failed.

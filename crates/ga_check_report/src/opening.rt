@@ -1,4 +1,4 @@
-//! A program is read and opened; why it isn't is written in the format that was asked for.
+//! A program is read and opened; why it isn't is written in the requested format.
 
 ghost use Rattle.std.specs.Prelude.{◌≡◌, ◌++◌, [], Some};
 ghost use Rattle.ga_text.specs.Lines.{Bytes};
@@ -83,7 +83,7 @@ pub fn open_lab_with_json_refusals<R: Read, W: Write, E: Write>(
     }
 }
 
-/// What standard error has of a program that isn't opened. If no memory was left for the reason, this is said there, too.
+/// What standard error has of a program that isn't opened. If no memory was left for the reason, standard error has that, too.
 fn refusal_reason_lines<'a, E: Write>(
     errors: &mut E,
     status: Status,
@@ -100,7 +100,7 @@ fn refusal_reason_lines<'a, E: Write>(
     }
 }
 
-/// Writes an object for each line of a reason, and of what was told; and answers this status, or that a write failed.
+/// Writes an object for each line of a reason, and of the warnings; and returns this status, or that a write failed.
 fn tell_unopened<W: Write>(
     file: &[u8],
     reason: &[u8],
@@ -131,7 +131,7 @@ fn status_sent<W: Write>(said: WriteResult, status: Status, writer: &mut Writer<
     }
 }
 
-/// Writes an object for each line of a reason, and of what was told.
+/// Writes an object for each line of a reason, and of the warnings.
 ///
 /// # Errors
 /// A write failed.

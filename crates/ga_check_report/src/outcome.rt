@@ -24,7 +24,7 @@ pub(crate) enum Breach {
         place: u32,
         fault: LinkFault,
     },
-    /// Some order goes on for ever.
+    /// Some order never ends.
     Endless,
     /// The program has this number of ends, two or more.
     SeveralEnds(usize),

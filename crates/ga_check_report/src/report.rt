@@ -42,7 +42,7 @@ pub enum Verdict {
     /// At some end a node makes no further step and doesn't rest cleanly; or there is an event after which a condition holds; or an expectation is
     /// broken; or one end is expected, and two were found.
     Unclean,
-    /// A bound was met, and each end that was found is clean, or what was asked for wasn't found, or no expectation is broken.
+    /// A bound was met, and each end that was found is clean, or the requested end wasn't found, or no expectation is broken.
     Unknown,
     /// The session of a kind of end or of an expectation was written.
     SessionWritten,
@@ -66,7 +66,7 @@ pub fn check_ends<R: Read, W: Write, E: Write>(
     asked: u32,
     watch: &SearchControl,
 ) -> Verdict
-    // Where the streams tell their bytes: what was read, and what was written for it by the verdict.
+    // Where the streams show their bytes: what was read, and what was written for it by the verdict.
     ensures { ReadsAndWrites (λ read rest text. IsCheckOutcome request.entry limit settles asked read rest text result)
         (R.remaining reader.old) (R.remaining reader.new) (W.contents writer.old) (W.contents writer.new) }
 {
@@ -221,7 +221,7 @@ fn write_answer<W: Write>(
     write_same(request, found, writer)
 }
 
-/// Writes the kinds of end in the format that was asked for.
+/// Writes the kinds of end in the requested format.
 ///
 /// # Errors
 /// A write failed.
@@ -275,7 +275,7 @@ pub(crate) fn tell_refused<W: Write>(
     )
 }
 
-/// Writes a refusal in the format that was asked for.
+/// Writes a refusal in the requested format.
 ///
 /// # Errors
 /// A write failed.

@@ -102,7 +102,7 @@ fn rewind_ahead(text: &[u8]) -> Option<(DebuggerCommand, usize)>
     Some((DebuggerCommand::Rewind(node, step), REWIND_HEAD + digits))
 }
 
-/// The `rewind` or `count` that the line in front of a text spells, and how many bytes it has. The second byte to the fifth tell which.
+/// The `rewind` or `count` that the line in front of a text spells, and how many bytes it has. The second byte to the fifth distinguish the two.
 #[inline(always)]
 #[tactic(auto, using(crate::proofs::AheadLemmas::count_front, crate::proofs::AheadLemmas::six_are))]
 fn soon_ahead(text: &[u8]) -> Option<(DebuggerCommand, usize)>

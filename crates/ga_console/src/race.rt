@@ -29,7 +29,7 @@ pub fn write_worker_race_report<T: Threads + Wait + Sync, R: Read, W: Write>(
     limit: u32,
 ) -> Status
     requires { (1 ≤ workers) × (workers ≤ 16) }
-    // Where the streams tell their bytes: what was read, and what was written for it by the status.
+    // Where the streams show their bytes: what was read, and what was written for it by the status.
     ensures { ReadsAndWrites (λ read rest text. WritesWorkerRaceReport limit workers calls read rest text result)
         (R.remaining reader.old) (R.remaining reader.new) (W.contents writer.old) (W.contents writer.new) }
 {

@@ -23,9 +23,9 @@ use std::io::Write;
 /// What a line asks for.
 #[derive(Clone, Copy, PartialEq, Eq)]
 pub enum LineAction {
-    /// An answer, which was said.
+    /// An answer, which was written.
     Answered,
-    /// An answer, which was said, and the end of the session, as the command was refused.
+    /// An answer, which was written, and the end of the session, as the command was refused.
     Refused,
     /// The end of the session.
     Quit,
@@ -33,7 +33,7 @@ pub enum LineAction {
 
 /// What answers the lines of a session. It knows each command of the debugger, and may know more.
 pub trait Responder: Drop {
-    // The machine before a line, the line, its answer, and the machine after it, where the session goes on.
+    // The machine before a line, the line, its answer, and the machine after it, if the session continues.
     ghost answers: { Self → Bytes → Bytes → Self → Type 0 };
 
     // The same, where the session ends, as the command was refused.

@@ -47,7 +47,7 @@ pub fn session<R: Read, W: Write>(
     writer: &mut W,
     limit: u32,
 ) -> Status
-    // Where the streams tell their bytes: what was read, and what was written for it by the status.
+    // Where the streams show their bytes: what was read, and what was written for it by the status.
     ensures { ReadsAndWrites (λ read rest text. WritesSession limit read rest text result)
         (R.remaining reader.old) (R.remaining reader.new) (W.contents writer.old) (W.contents writer.new) }
 {

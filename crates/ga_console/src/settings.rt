@@ -111,7 +111,7 @@ pub enum CommandLineFault {
     /// The words are no command line of the program. The text has the faulty word, and what is expected.
     #[error("{0}")]
     Refused(String),
-    /// There was no memory to read the settings, or to tell what is wrong with them.
+    /// There was no memory to read the settings, or to report what is wrong with them.
     #[error("out of memory")]
     Memory,
 }
@@ -119,7 +119,7 @@ pub enum CommandLineFault {
 /// Reads the command line, the program's name first. The numbers that it answers are in their ranges.
 ///
 /// # Errors
-/// `Help`, where help or the version was asked for; `Refused`; `Memory`.
+/// `Help`, where help or the version was requested; `Refused`; `Memory`.
 pub fn parse_command_line(alloc: Global, words: &[&str]) -> Result<Settings, CommandLineFault>
     ensures in_range { IfOk result AreSettingsInRange }
 {

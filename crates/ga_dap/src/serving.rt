@@ -48,7 +48,7 @@ pub fn serve_client<S: ProgramFiles, A: PendingInput, R: Read, W: Write>(
     reader: &mut R,
     writer: &mut W,
 ) -> SessionEnd
-    // Where the streams tell their bytes: what was read, and what was written for it, for whatever the host has and says.
+    // Where the streams show their bytes: what was read, and what was written for it, for whatever the host has and says.
     ensures { (left before : Bytes) →
         R.remaining reader.old ≡ Some left → W.contents writer.old ≡ Some before →
         (rest written : Bytes) × (R.remaining reader.new ≡ Some rest) × (W.contents writer.new ≡ Some (before ++ written))

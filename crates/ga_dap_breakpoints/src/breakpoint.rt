@@ -1,4 +1,4 @@
-//! Breakpoints, and where they stand.
+//! Breakpoints, and their places.
 
 ghost use Rattle.std.specs.Prelude.{◌≡◌};
 ghost use Rattle.ga_debug_info.specs.Notes.{slot_or_first_for_fetch};

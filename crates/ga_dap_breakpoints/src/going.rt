@@ -20,7 +20,7 @@ pub enum HaltReason {
     NodeStopped(MadeEvent),
     /// This event completed the move. It hit no breakpoint and is no stop that ends the move.
     CompletedMove(MadeEvent),
-    /// As many events were made as were asked for: the move can be gone on with.
+    /// All requested events were made: the move can be continued.
     SliceEnded,
     /// No node of the chip has an event.
     Quiet,

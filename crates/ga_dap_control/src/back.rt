@@ -118,7 +118,7 @@ fn rollback_summary_first_line(
     Ok(text)
 }
 
-/// The lines that tell what went.
+/// The lines that list what was removed.
 pub fn rollback_summary_text(
     alloc: Global,
     lab: &Lab,

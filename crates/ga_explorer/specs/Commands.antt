@@ -48,7 +48,7 @@ command_table =
     ∷ entry_of_query_command (codes "whence") (codes "whence NNN K [VALUE] [from L]") (codes "\n                      the steps whose values went into what step K of NNN made, or\n                      into a register, a word of a stack or a cell as it is after step K\n") (codes "answers: the nearest 100, each with its number and > the number of the step that used its value\nexample: whence 001 last, or whence 001 last r\n")
     ∷ entry_of_query_command (codes "because") (codes "because NNN K [N]") (codes "     N steps before step K at which a value decided where NNN continued\nK of effects, at, whence, because: a step's number, or last\n") (codes "answers: for each the step and the word that it tested, and below it the step that made that word\nexample: because 001 last\n")
     ∷ entry_of_query_command (codes "races") (codes "races [NNN]") (codes "           steps that yield another word in another order, and how\n") (codes "answers: races N, and for each of N steps the other word, and two commands that lead there\nexample: races 001\n")
-    ∷ entry_of_query_command (codes "expectations") (codes "expectations") (codes "          how each line expect of the source stands\n") (codes "answers: for each whether it is held, broken and by what, or pending: it depends on what comes or on other orders\nexample: expectations\n")
+    ∷ entry_of_query_command (codes "expectations") (codes "expectations") (codes "          the status of each line expect of the source\n") (codes "answers: for each whether it is held, broken and by what, or pending: it depends on what comes or on other orders\nexample: expectations\n")
     ∷ entry_of_query_command (codes "save") (codes "save") (codes "                  the history as lines of debug\n") (codes "answers: step NNN for each event, the oldest first\nexample: save\n")
     ∷ entry_of_query_command (codes "help") (codes "help [COMMAND]") (codes "        these lines, or more of one command\n") (codes "answers: the command's form and what it does, what it answers, and an example\nexample: help why\n")
     ∷ entry_of_changing_command (codes "step") (codes "step NNN") (codes "              make the next event of NNN\n") (codes "answers: NNN K and what the step did, or pass WWW K RRR J W: it moved the word W from WWW to RRR\nexample: step 001\n")

@@ -97,9 +97,9 @@ static ROWS: &[Row] = &[
         name: b"expectations",
         class: CommandClass::Query,
         form: b"expectations",
-        does: b"          how each line expect of the source stands\n",
+        does: b"          the status of each line expect of the source\n",
         more: b"answers: for each whether it is held, broken and by what, or pending: it depends on what comes or on other orders\nexample: expectations\n",
-        usage: "  expectations           show how each line expect of the source stands: held, broken or pending\n",
+        usage: "  expectations           show the status of each line expect of the source: held, broken or pending\n",
     },
     Row {
         name: b"save",

@@ -81,7 +81,7 @@ pub enum Query {
     Races {
         only: Option<NodeId>,
     },
-    /// `expectations`: writes how each expectation of the source stands.
+    /// `expectations`: writes the status of each expectation of the source.
     Expectations,
     /// `who`: writes who waits for whom, and which nodes are deadlocked.
     WaitingNodes,

@@ -26,7 +26,7 @@ pub fn serve_explorer_session<R: Read, W: Write, E: Write>(
     is_prompted: bool,
     is_strict: bool,
 ) -> Status
-    // Where the streams tell their bytes: what was read, and what was written for it by the status.
+    // Where the streams show their bytes: what was read, and what was written for it by the status.
     ensures { ReadsAndWrites (λ read rest text. RunsExplorer is_prompted is_strict (optional_image_text chip) limit read rest text result)
         (R.remaining reader.old) (R.remaining reader.new) (W.contents writer.old) (W.contents writer.new) }
 {

@@ -1,4 +1,4 @@
-//! How the expectations of the source stand.
+//! The status of each expectation of the source.
 
 ghost use Rattle.std.specs.Prelude.{◌≡◌, ◌≤◌, ◌+◌, ◌++◌, codes, map};
 ghost use Rattle.arrayvec.specs.ArrayVec.{array_vec_len};
@@ -27,7 +27,7 @@ use ga_text::{WriteResult, Writer};
 use std::alloc::Global;
 use std::io::Write;
 
-/// `expectations`: writes how each expectation of the source stands, a row each. Takes memory for the expectations.
+/// `expectations`: writes the status of each expectation of the source, a row each. Takes memory for the expectations.
 ///
 /// # Errors
 /// A write failed.
@@ -45,7 +45,7 @@ pub fn write_expectations_json<W: Write>(
     }
 }
 
-/// Writes how each of these expectations stands.
+/// Writes the status of each of these expectations.
 fn write_statuses<W: Write>(
     lab: &Lab,
     expectations: &[LineExpectation],
@@ -59,7 +59,7 @@ fn write_statuses<W: Write>(
     write_status_rows(lab, &stuck, is_quiet, expectations, writer)
 }
 
-/// Writes how each of these expectations stands, where these nodes are deadlocked and an event is possible or none is.
+/// Writes the status of each of these expectations, where these nodes are deadlocked and an event is possible or none is.
 fn write_status_rows<W: Write>(
     lab: &Lab,
     stuck: &[bool; 144],
@@ -108,7 +108,7 @@ fn statuses_head_fields() -> [Field<'static>; 1]
     [Field::text(b"command", b"expectations")]
 }
 
-/// How an expectation stands, where these nodes are deadlocked and an event is possible or none is.
+/// The status of an expectation, where these nodes are deadlocked and an event is possible or none is.
 fn status_row<'e>(
     lab: &Lab,
     stuck: &[bool; 144],
@@ -123,7 +123,7 @@ fn status_row<'e>(
     row
 }
 
-/// The line and the words of an expectation, how it stands, and what breaks it, in a word.
+/// The line and the words of an expectation, its status, and what breaks it, in a word.
 fn status_front_fields<'e>(one: &'e LineExpectation, status: &ExpectationStatus) -> RowFields<'e>
     ensures front { map named_field_value result.items ≡ status_front_fields one.now status.now }
     ensures few { array_vec_len result ≤ 4 }
@@ -138,7 +138,7 @@ fn status_front_fields<'e>(one: &'e LineExpectation, status: &ExpectationStatus)
     ])
 }
 
-/// How an expectation stands, in a word.
+/// The status of an expectation, in a word.
 fn status_keyword(status: ExpectationStatus) -> &'static [u8]
     ensures { result.now ≡ status_keyword status }
 {

@@ -31,7 +31,7 @@ pub fn explore_json<R: Read, W: Write, E: Write>(
     limit: u32,
     is_strict: bool,
 ) -> Status
-    // Where the streams tell their bytes: what was read, and what was written for it by the status.
+    // Where the streams show their bytes: what was read, and what was written for it by the status.
     ensures { ReadsAndWrites (λ read rest text. RunsJsonExplorer is_strict file.now (optional_image_text chip) limit read rest text result)
         (R.remaining reader.old) (R.remaining reader.new) (W.contents writer.old) (W.contents writer.new) }
 {

@@ -37,7 +37,7 @@ use std::io::Write;
 /// The code of `+*`.
 const MULTIPLY_STEP: u8 = 16;
 
-/// What is asked: a step of a node, and the first line that is written; and what the source says of the chip.
+/// The query: a step of a node, and the first line that is written; and what the source says of the chip.
 #[derive(Clone, Copy)]
 struct LinesQuery<'n> {
     notes: &'n Option<DebugInfo>,
@@ -222,7 +222,7 @@ pub(crate) fn word_of_value<'l>(
     part_word_after_walk_back(lab, node, place, &walk, part)
 }
 
-/// The line from which to go on after so many.
+/// The line from which to continue after `lines` lines.
 fn next_provenance_line_number(lines: u64, is_whole: bool) -> Option<u64>
     requires { lines < 2 ^ 32 }
     ensures { result ≡ next_provenance_line_number lines is_whole }

@@ -1,4 +1,4 @@
-//! How the expectations of a source stand, written line by line.
+//! The status of each expectation of a source, written line by line.
 
 ghost use Rattle.std.specs.Prelude.{◌≡◌, ◌≤◌, length};
 ghost use Rattle.ga_causal.specs.Dependence.{is_node_flagged};
@@ -20,13 +20,13 @@ use ga_text::{MAX_LINE_BYTES, TextBuffer, WriteResult, Writer, push_node, push_n
 use std::alloc::Global;
 use std::io::Write;
 
-/// The maximum number of bytes of how an expectation stands.
+/// The maximum number of bytes of the status of an expectation.
 const STATUS_ROOM: usize = 2 * MAX_LINE_BYTES;
 
-/// How an expectation stands.
+/// The status of an expectation.
 type StatusText = ArrayVec<u8, STATUS_ROOM>;
 
-/// `expectations`: writes how each expectation of the source stands, over the history and the chip now, in the order of lines. Takes memory for the
+/// `expectations`: writes the status of each expectation of the source, over the history and the chip now, in the order of lines. Takes memory for the
 /// expectations.
 ///
 /// # Errors
@@ -45,7 +45,7 @@ pub fn write_expectations<W: Write>(
     }
 }
 
-/// Writes how each of these expectations stands, over the history and the chip now, or that there are none.
+/// Writes the status of each of these expectations, over the history and the chip now, or that there are none.
 ///
 /// # Errors
 /// A write failed.
@@ -65,7 +65,7 @@ fn write_expectation_statuses<W: Write>(
     write_lines(lab, &stuck, is_quiet, expectations, writer)
 }
 
-/// Writes how each of these expectations stands, where these nodes are deadlocked and an event is possible or none is.
+/// Writes the status of each of these expectations, where these nodes are deadlocked and an event is possible or none is.
 fn write_lines<W: Write>(
     lab: &Lab,
     stuck: &[bool; 144],
@@ -81,7 +81,7 @@ fn write_lines<W: Write>(
     Ok(())
 }
 
-/// Writes how an expectation stands.
+/// Writes the status of an expectation.
 fn write_line<W: Write>(
     lab: &Lab,
     stuck: &[bool; 144],
@@ -108,7 +108,7 @@ pub fn expectation_line_start(line: u32) -> TextBuffer
     out
 }
 
-/// What comes after the words of an expectation: how it stands.
+/// What comes after the words of an expectation: its status.
 fn status_text(status: ExpectationStatus) -> StatusText
     ensures { result.items ≡ status_text status }
 {
@@ -119,7 +119,7 @@ fn status_text(status: ExpectationStatus) -> StatusText
     out
 }
 
-/// How an expectation stands, in a word.
+/// The status of an expectation, in a word.
 fn status_start(status: &ExpectationStatus) -> &'static [u8]
     ensures text { result.now ≡ status_start status.now }
     ensures len { length result.now ≤ 16 }

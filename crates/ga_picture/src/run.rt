@@ -24,7 +24,7 @@ pub fn draw_session<R: Read, W: Write, E: Write>(
     chip: Option<Vec<u8>>,
     limit: u32,
 ) -> Status
-    // Where the streams tell their bytes: what was read, and what was written for it by the status.
+    // Where the streams show their bytes: what was read, and what was written for it by the status.
     ensures { ReadsAndWrites (λ read rest text. WritesSessionPicture (optional_image_text chip) limit view read rest text result)
         (R.remaining reader.old) (R.remaining reader.new) (W.contents writer.old) (W.contents writer.new) }
 {

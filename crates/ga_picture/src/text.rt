@@ -240,14 +240,14 @@ struct Track {
     waits: bool,
 }
 
-/// How the nodes stand, one for each line.
+/// The state of the nodes, one for each line.
 #[derive(Drop)]
 struct Tracks {
     tracks: Vec<Track>,
 }
 
 impl Tracks {
-    /// How the nodes stand before any has had an event.
+    /// The state of the nodes before any has had an event.
     fn new(alloc: Global, lines: usize) -> Result<Self, AllocError> {
         let mut tracks = Vec::new(alloc);
         for _line in 0..lines {

@@ -33,7 +33,7 @@ pub type PictureStep = (NodeId, StepSelector);
 /// What a picture is to show of the kept events.
 #[derive(Clone, Copy, PartialEq, Eq)]
 pub struct PictureView {
-    /// The step whose causes stand out.
+    /// The step whose causes are highlighted.
     pub cause: Option<PictureStep>,
     /// The step of which all is marked that a rollback would take.
     pub rewind: Option<PictureStep>,

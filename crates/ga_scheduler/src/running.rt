@@ -23,7 +23,7 @@ pub enum RunEnd {
     /// A condition holds right after this event, and none held after one before. Of those that hold it is the first, at this place
     /// of their list.
     ConditionHeld { made: MadeEvent, which: u8 },
-    /// As many events were made as were asked for.
+    /// All requested events were made.
     MadeRequestedEvents,
     /// No node of the chip has an event.
     Quiet,

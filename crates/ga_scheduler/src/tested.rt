@@ -15,7 +15,7 @@ use crate::running::{RunEnd, RunResult, make};
 use crate::schedule::Schedule;
 use ga_lab::{Lab, MadeEvent};
 
-/// What ends a run: it is asked after each event, and remembers what it needs of the events before.
+/// What ends a run: it is tested after each event, and keeps what it needs of the events before.
 pub trait RunTest {
     ghost use Rattle.std.specs.Prelude.{◌≡◌, ℕ, Option};
     ghost use Rattle.ga_event.specs.declared.made.MadeEvent.{MadeEvent};

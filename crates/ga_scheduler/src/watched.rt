@@ -24,7 +24,7 @@ use ga_lab::{Lab, LabFault, MadeEvent};
 pub enum WatchedRunEnd {
     /// The watch ended the run after this event, and after none before.
     EndedByWatch(MadeEvent),
-    /// As many events were made as were asked for.
+    /// All requested events were made.
     Made,
     /// No node of the chip has an event.
     Quiet,

@@ -296,7 +296,7 @@ fn none_given() -> [Option<u32>; CELLS]
     [None; CELLS]
 }
 
-/// Loads packed groups into a node, whose cells then read as what was asked. Its registers stay.
+/// Loads packed groups into a node, whose cells then read as the words that were packed. Its registers stay.
 pub(crate) fn load(
     node: &mut Node,
     packed: &PackedNode,

@@ -38,7 +38,7 @@ struct Packer {
     filling: ArrayVec<AssemblyItem, 4>,
     /// The line of each item of that cell.
     lines: ArrayVec<u32, 4>,
-    /// The line of an `unext` in that cell that can't stand there.
+    /// The line of an `unext` in that cell that isn't allowed there.
     broken: Option<u32>,
     /// Where the walk through the requests is: in the cell that is being filled, after its items.
     spot: PackingSpot,

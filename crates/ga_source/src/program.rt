@@ -44,7 +44,7 @@ pub(crate) fn is_node_keyword(text: &[u8]) -> bool
     text == b"node".as_slice()
 }
 
-/// How many words stand before the next word `node`.
+/// The number of words before the next word `node`.
 pub(crate) fn body_length(tokens: &[Token]) -> usize
     ensures in_range { result ≤ length tokens.now }
     ensures front { texts_of_tokens (take result tokens.now) ≡ body_words (texts_of_tokens tokens.now) }

@@ -1,4 +1,4 @@
-//! The event that broke an expectation: the oldest in the history that goes against it.
+//! The event that broke an expectation: the oldest in the history that violates it.
 
 ghost use Rattle.std.specs.Prelude.{◌≡◌, ◌<◌, ◌≤◌, ◌+◌, length, if◌then◌else◌, Some, None, IfSome};
 ghost use Rattle.ga_state_expectations.specs.Breaking.{later_place, is_last_place, oldest_event_of_never_condition, oldest_event_of_never, oldest_unexpected_transfer, oldest_violation, place_if_considered, newest_breach};
@@ -65,7 +65,7 @@ fn words_before(words: u32, expected: &LinkExpectation, made: &MadeEvent) -> u32
     }
 }
 
-/// The place, if the event there goes against an expectation.
+/// The place, if the event there violates an expectation.
 fn place_if(is_unexpected: bool, place: u32) -> Option<u32>
     ensures { result ≡ (if is_unexpected then Some place else None) }
 {
@@ -94,7 +94,7 @@ fn oldest_unexpected_transfer(lab: &Lab, expected: &LinkExpectation) -> Option<u
     oldest
 }
 
-/// The place of the oldest event that goes against the expectation: that broke it.
+/// The place of the oldest event that violates the expectation: that broke it.
 pub(crate) fn oldest_violation(lab: &Lab, expectation: &Expectation) -> Option<u32>
     ensures { result ≡ oldest_violation expectation.now lab.now }
 {

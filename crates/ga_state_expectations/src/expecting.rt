@@ -138,9 +138,9 @@ fn none_broken(alloc: Global, expectations: &[LineExpectation]) -> Result<Vec<bo
 }
 
 /// Makes events in the order of a schedule: at most `most`, up to the first after which one of the conditions holds, where these expectations are known,
-/// and returns the next schedule. `broken` holds after the event that broke an expectation, and after no later one that goes against it. Takes memory for a
+/// and returns the next schedule. `broken` holds after the event that broke an expectation, and after no later one that violates it. Takes memory for a
 /// number and a flag for each expectation. The time is linear in the number of events made, for each expectation; and in that of the events in the history,
-/// once for each expectation that an event goes against.
+/// once for each expectation that an event violates.
 ///
 /// # Errors
 /// Out of memory; then no event was made.

@@ -13,7 +13,7 @@ pub enum Expectation {
     Never(StateConditions),
     /// These words pass over a link.
     LinkPassesWords(LinkExpectation),
-    /// No order goes on for ever.
+    /// Every order ends.
     EveryOrderEnds,
     /// The program has one end.
     OneEnd,

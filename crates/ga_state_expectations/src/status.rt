@@ -1,4 +1,4 @@
-//! How an expectation stands in a session: over its history and the chip now.
+//! The status of an expectation in a session: over its history and the chip now.
 
 ghost use Rattle.std.specs.Prelude.{◌≡◌, None};
 ghost use Rattle.ga_causal.specs.Dependence.{is_node_flagged};
@@ -31,7 +31,7 @@ pub enum SessionBreach {
     OverLink { place: u32, fault: LinkFault },
 }
 
-/// How an expectation stands.
+/// The status of an expectation.
 #[derive(Clone, Copy, PartialEq, Eq, Debug)]
 pub enum ExpectationStatus {
     /// Nothing that may still come can break it.
@@ -53,7 +53,7 @@ fn held_if_quiet(is_quiet: bool) -> ExpectationStatus
     }
 }
 
-/// How the expectation of a node at each end stands.
+/// The status of the expectation of a node at each end.
 fn node_status(lab: &Lab, is_quiet: bool, expected: &NodeExpectation) -> ExpectationStatus
     ensures { result ≡ node_status is_quiet expected.now lab.now }
 {
@@ -100,7 +100,7 @@ fn first_stuck_node(stuck: &[bool; 144], conditions: &[StateCondition]) -> Optio
     None
 }
 
-/// How conditions stand that should never hold, and after no event did.
+/// The status of conditions that should never hold, and after no event did.
 fn stuck_status(
     stuck: &[bool; 144],
     is_quiet: bool,
@@ -114,7 +114,7 @@ fn stuck_status(
     }
 }
 
-/// How conditions stand that should never hold.
+/// The status of conditions that should never hold.
 fn never_status(
     lab: &Lab,
     stuck: &[bool; 144],
@@ -143,7 +143,7 @@ fn fault_of_unexpected_word(expected: &LinkExpectation, before: u32, word: u32) 
     }
 }
 
-/// How the words over a link stand of which none isn't allowed.
+/// The status of the words over a link of which none isn't allowed.
 fn link_status_without_fault(
     expected: &LinkExpectation,
     is_quiet: bool,
@@ -167,7 +167,7 @@ fn link_status_without_fault(
     }
 }
 
-/// How the words over a link stand.
+/// The status of the words over a link.
 fn link_status(lab: &Lab, is_quiet: bool, expected: &LinkExpectation) -> ExpectationStatus
     ensures { result ≡ link_status is_quiet expected.now lab.now }
 {
@@ -189,7 +189,7 @@ fn link_status(lab: &Lab, is_quiet: bool, expected: &LinkExpectation) -> Expecta
     link_status_without_fault(expected, is_quiet, place)
 }
 
-/// How an expectation stands, where these nodes are deadlocked and an event is possible or none is. Allocates nothing. Takes time linear in the number of
+/// The status of an expectation, where these nodes are deadlocked and an event is possible or none is. Allocates nothing. Takes time linear in the number of
 /// events, for each condition that should never hold; or in the number of steps of one end of a link.
 pub fn expectation_status(
     lab: &Lab,

@@ -18,7 +18,7 @@ fn breaks_expectation(expectation: &Expectation, lab: &Lab) -> bool
     is_last_place(lab, oldest_violation(lab, expectation))
 }
 
-/// Whether an event of the history goes against the expectation, as far as that is known; and whether the newest event broke it. If it is known that an earlier
+/// Whether an event of the history violates the expectation, as far as that is known; and whether the newest event broke it. If it is known that an earlier
 /// event did, nothing is searched.
 #[tactic(auto, using(crate::proofs::NewestBreach::unviolated_unbroken, crate::proofs::NewestBreach::violated_some))]
 fn test_expectation(
@@ -43,7 +43,7 @@ fn test_expectation(
     (true, breaks_expectation(expectation, lab))
 }
 
-/// Whether the newest event broke one of the expectations, with the number of words that passed over the link of each. Those that it goes against are
+/// Whether the newest event broke one of the expectations, with the number of words that passed over the link of each. Those that it violates are
 /// flagged, so that the history is searched once for each.
 fn breaks_one_expectation(
     expectations: &[LineExpectation],

@@ -1,4 +1,4 @@
-//! Whether an event goes against an expectation.
+//! Whether an event violates an expectation.
 
 ghost use Rattle.std.specs.Prelude.{◌≡◌};
 ghost use Rattle.ga_scheduler.specs.Watched.{IsReportOfNewestEvent};
@@ -64,7 +64,7 @@ fn one_never_condition_holds(conditions: &[StateCondition], made: &MadeEvent, la
         .any(|condition| never_condition_holds(condition, made, lab))
 }
 
-/// Whether the newest event goes against the expectation. With it, `words` words passed over the expectation's link.
+/// Whether the newest event violates the expectation. With it, `words` words passed over the expectation's link.
 pub(crate) fn violates_expectation(
     expectation: &Expectation,
     words: u32,

@@ -1,4 +1,4 @@
-//! Images that are read and refused, and those in which one byte is changed. Others stand in `.ci/images` at the top.
+//! Images that are read and refused, and those in which one byte is changed. Others are in `.ci/images` at the top.
 
 use crate::common::assert_each_display_text;
 use ga_image::{ImageFault, ImageFaultCause, parse};

@@ -8,7 +8,7 @@ use super::{Transfer, TransferIter};
 use ga_grid::NodeId;
 use ga_lab::{Lab, MadeEvent};
 
-// Whether the reader has fewer steps than the writer. The steps of either tell the words.
+// Whether the reader has fewer steps than the writer. The steps of either give the words.
 #[tactic(auto, using(crate::proofs::WordCounts::by_either))]
 fn is_shorter(lab: &Lab, writer: NodeId, reader: NodeId) -> bool
     ensures { numbered_transfers writer.number reader.number 0 (history_of_node lab.now (scanned_link_end result writer reader))
