@@ -1,4 +1,3 @@
-pub mod Knowing
 pub mod Carrying
 pub mod Turning
 pub mod Unopened

@@ -1,4 +1,2 @@
 pub mod Cells
-pub mod Halting
-pub mod Stepping
 pub mod Words

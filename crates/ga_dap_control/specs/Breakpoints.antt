@@ -78,22 +78,16 @@ SetsLineBreakpoints p set request message new = SetsLineBreakpointsIfOwnFile (is
 abbrev pub is_json_string_equal_to : Text → Data → Bool
 is_json_string_equal_to name d = equals_optional_text name (as_str d)
 
--- a filter: a node that stops, one that can never go on, or an event that breaks an expectation of the source ends a run
+-- a filter: a node that stops, or that can never go on, ends a run
 abbrev pub is_exception_filter_name : Data → Bool
-is_exception_filter_name d = (is_json_string_equal_to (codes "stop") d || is_json_string_equal_to (codes "stuck") d) || is_json_string_equal_to (codes "broken") d
+is_exception_filter_name d = is_json_string_equal_to (codes "stop") d || is_json_string_equal_to (codes "stuck") d
 
 -- the requested filters are set, if each is one
 abbrev pub SetsExceptionFiltersIfKnown : Bool → List Data → Configuration → ClientRequest → Message → Configuration → Type 0
 SetsExceptionFiltersIfKnown true names set request message new =
-    (message ≡ bare_success_response request)
-    × (new
-    ≡ record set {
-      stops = list_any (is_json_string_equal_to (codes "stop")) names;
-      stuck = list_any (is_json_string_equal_to (codes "stuck")) names;
-      broken = list_any (is_json_string_equal_to (codes "broken")) names;
-    })
+    (message ≡ bare_success_response request) × (new ≡ record set { stops = list_any (is_json_string_equal_to (codes "stop")) names; stuck = list_any (is_json_string_equal_to (codes "stuck")) names })
 SetsExceptionFiltersIfKnown false names set request message new =
-    (message ≡ refused_response request (codes "setExceptionBreakpoints: the filters are stop, stuck and broken")) × (new ≡ set)
+    (message ≡ refused_response request (codes "setExceptionBreakpoints: the filters are stop and stuck")) × (new ≡ set)
 
 abbrev pub SetsExceptionFilters : Configuration → ClientRequest → Message → Configuration → Type 0
 SetsExceptionFilters set request message new =

@@ -1,5 +1,4 @@
 pub mod Stopping
-pub mod Watched
 pub mod Back
 pub mod Placing
 pub mod Breakpoints

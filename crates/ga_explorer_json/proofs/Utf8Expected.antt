@@ -95,7 +95,7 @@ breached (Reached made) = made_event made
 breached (Stuck node) = fields (session_breach_fields (Stuck node)) refl (node_name node, tt)
 breached (OverLink place fault) = over_link place fault
 
--- ---- its status
+-- ---- how it stands
 
 status_word : (status : ExpectationStatus) → IsUtf8 (status_keyword status)
 unfolding is_low

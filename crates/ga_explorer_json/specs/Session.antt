@@ -34,7 +34,7 @@ text_after_comma text = text_after_first_such_byte 44 text
 abbrev pub is_json_refusal : Text → Bool
 is_json_refusal answer = starts_with nat_eq (text_after_comma answer) (codes "\"refused\":")
 
--- the line is answered, and the session continues
+-- the line is answered, and the session goes on
 abbrev pub AnswersJsonAndContinues : Bool → AnswerRelation ExplorerState
 AnswersJsonAndContinues strict e line answer new = AnswersJsonLine e line answer new × ((strict && is_json_refusal answer) ≡ false)
 

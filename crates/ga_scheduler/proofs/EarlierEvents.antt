@@ -14,7 +14,7 @@ use Rattle.ga_lab.specs.Machine.{MachineState, chip_of_machine, machine_events_w
 use Rattle.ga_scheduler.specs.declared.condition.Condition.{Condition}
 use Rattle.ga_scheduler.specs.declared.condition.Condition.TheVariants.{Never, PassesWord, PassesNthWord, MakesNumberedStep, AnyNodeStops, GivenNodeStops, GivenNodeWaits, HoldsPlaceValue, ReachesAddress, WritesRamCell, Broken}
 use Rattle.ga_scheduler.specs.Conditions.{holds_after_made_event}
-use Rattle.ga_scheduler.specs.Watched.{IsRunStep}
+use Rattle.ga_scheduler.specs.Tested.{IsRunStep}
 use Rattle.ga_scheduler.specs.Oldest.{earlier_place, holds_after_optional_event, has_held_at, oldest_holding_event, oldest_event_of_conditions}
 use Rattle.ga_scheduler.proofs.Stepping.{StepIs, step_is, stepped_is}
 use Rattle.ga_scheduler.proofs.WordCounts.{told_behind, kept_told}

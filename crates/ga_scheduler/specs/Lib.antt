@@ -8,4 +8,5 @@ pub mod Effects
 pub mod Words
 pub mod inner
 pub mod Idle
+pub mod Tested
 pub mod Oldest

@@ -1,4 +1,4 @@
--- The event that broke an expectation is the oldest that violates it.
+-- The event that broke an expectation is the oldest that goes against it.
 use Rattle.std.proofs.Common.{◌≡◌, ◌∙◌, ℕ, zero, suc, ◌+◌, ◌<◌, ◌||◌, Bool, true, false, cond, List, [], ◌∷◌, length, Option, Some, None, refl, sym, ap, subst, arith}
 use Rattle.ga_event.specs.Told.{made_event_at_place}
 use Rattle.ga_event.specs.declared.made.MadeEvent.{MadeEvent}

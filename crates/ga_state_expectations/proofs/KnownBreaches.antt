@@ -9,7 +9,7 @@ use Rattle.ga_event.specs.Told.{made_event_at_place}
 use Rattle.ga_lab.specs.Machine.{MachineState, machine_events_with_outcomes, earlier_state}
 use Rattle.ga_scheduler.specs.Words.{link_transfer_count}
 use Rattle.ga_scheduler.specs.Oldest.{earlier_place}
-use Rattle.ga_scheduler.specs.Watched.{IsRunStep}
+use Rattle.ga_scheduler.specs.Tested.{IsRunStep}
 use Rattle.ga_scheduler.proofs.OldestLaws.{Found}
 use Rattle.ga_scheduler.proofs.EarlierEvents.{HasOneMore, one_more_event, told_before_step, kept_before, length_more, IsOldestWith, both_with, none_with, all_with}
 use Rattle.ga_state_conditions.specs.declared.condition.StateCondition.{StateCondition}

@@ -13,4 +13,3 @@ pub mod LinkStatuses
 pub mod StuckNodes
 pub mod LinkCounts
 pub mod Tested
-pub mod ExpectingRuns

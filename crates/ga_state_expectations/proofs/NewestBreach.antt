@@ -1,4 +1,4 @@
--- Whether the newest event broke an expectation, by whether it violates it.
+-- Whether the newest event broke an expectation, by whether it goes against it.
 use Rattle.std.proofs.Common.{◌≡◌, ◌∙◌, ℕ, ◌+◌, ◌-◌, ◌<◌, ◌==◌, Bool, true, false, List, [], ◌∷◌, length, Option, Some, None, refl, sym, ap, subst, arith}
 use Rattle.std.specs.Prelude.{IsSome}
 use Rattle.std.proofs.lemmas.Bool.{true≢false, eqb-true}
