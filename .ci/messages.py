@@ -130,7 +130,7 @@ def wrong_inputs(room):
         "variables": ({"variablesReference": "1"}, "variables: no such reference"),
         "stepOut": ({"threadId": 1000}, "stepOut: the node is in no call that is kept"),
         "disassemble": ({"memoryReference": "0x018000", "instructionCount": 1}, "disassemble: no such memory"),
-        "setExceptionBreakpoints": ({"filters": ["uncaught"]}, "setExceptionBreakpoints: the filters are stop and stuck"),
+        "setExceptionBreakpoints": ({"filters": ["uncaught"]}, "setExceptionBreakpoints: the filters are stop, stuck and broken"),
     }
     # conditions that are no text; null is none
     others = [5, True, ["1"], {}, None]

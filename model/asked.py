@@ -5,6 +5,8 @@ import random
 from client import demand, text_of
 from conditions import generated_test
 from editing import Session
+from exploring import expected_lines
+from files import load_of
 from listing import NAMES
 from machine import name
 from node import neighbour
@@ -24,7 +26,7 @@ class Generator:
     third session is of lines forward and back, and its nodes never wait for ever."""
 
     def __init__(self, number):
-        self.random = random.Random(number)
+        self.random, self.expected = random.Random(number), random.Random(f"expected {number}")
         self.is_free = number % 3 == 0
 
     def body(self, name, depth=1):
@@ -72,7 +74,14 @@ class Generator:
         if self.is_free:
             return self.flowing()
         source = self.source()
-        return source if self.random.random() < 0.9 else asm(source)[0]
+        if self.random.random() > 0.9:
+            return asm(source)[0]
+        if self.expected.random() < 0.1:
+            return source
+        lines = expected_lines(self.expected, load_of(asm(source)[0].splitlines()))
+        nodes = [it.split()[1] for it in source.splitlines() if it.startswith("node ")]
+        lines.append(f"expect never reach {self.expected.choice(nodes)} {self.expected.choice(('one', 'two'))}")
+        return source + "".join(f"{it}\n" for it in lines)
 
     def source(self):
         lines = []
@@ -138,7 +147,7 @@ def asked_of(number, path, can):
     if not is_free:
         ask_for_breakpoints(path, ask, draw)
     if is_free or draw.random() < 0.8:
-        ask("setExceptionBreakpoints", {"filters": [] if is_free else draw.choice((["stop", "stuck"], ["stuck"], ["stop"], []))})
+        ask("setExceptionBreakpoints", {"filters": [] if is_free else draw.choice((["stop", "stuck"], ["stuck"], ["stop", "broken"], ["broken"], ["stuck", "broken"], ["stop", "stuck", "broken"], []))})
     ask("configurationDone")
     for _ in range(6 if is_free else 14):
         nodes = session.shown.nodes()

@@ -3,7 +3,9 @@
 import re
 
 from conditions import asked_with
-from explore import CHANGE, CLASSES, mixed, next_node
+from expectations import expectations_of
+from expecting import SessionExpectations
+from explore import CHANGE, CLASSES, mixed, next_node, number_of
 from files import answer, load_of
 from machine import NODES, name
 from shown import SCOPES, Places, Shown, Watched, address_of, cell_of, node_of_frame, node_of_thread, thread_of
@@ -17,6 +19,7 @@ ADDRESSES = 4096
 ABLE = ("ConditionalBreakpoints", "ConfigurationDoneRequest", "DataBreakpoints", "DisassembleRequest", "EvaluateForHovers", "ExceptionInfoRequest")
 ABLE += ("FunctionBreakpoints", "HitConditionalBreakpoints", "InstructionBreakpoints", "StepBack", "SteppingGranularity", "TerminateRequest")
 FULL = "full: as many events are kept as may be"
+FILTERS = {"stop": "A node stops", "stuck": "A node can never go on", "broken": "An expectation is broken"}
 
 
 def address_in(text):
@@ -88,9 +91,8 @@ class Session:
                 raise Refused(f"initialize: {what} are counted from 1 on")
         if self.arguments.get("pathFormat", "path") != "path":
             raise Refused("initialize: files are named by paths")
-        filters = {"stop": "A node stops", "stuck": "A node can never go on"}
         able = {f"supports{it}": True for it in ABLE}
-        self.respond(able | {"exceptionBreakpointFilters": [{"default": True, "filter": it, "label": label} for it, label in filters.items()]})
+        self.respond(able | {"exceptionBreakpointFilters": [{"default": True, "filter": it, "label": label} for it, label in FILTERS.items()]})
 
     def do_launch(self):
         path, limit = self.arguments["program"], self.arguments.get("limit", USUAL_LIMIT)
@@ -110,9 +112,10 @@ class Session:
         self.notes = self.machine.notes = Places(None if image else text)
         programs = set() if image else {NODE_NAMES[it] for it in programs_of(words_of(text))}
         self.shown = Shown(self.machine, self.notes, programs, path)
+        self.machine.expected = SessionExpectations([] if image else expectations_of(text)[0])
         self.order, self.state = self.arguments.get("order", "rounds"), self.arguments.get("seed", 0)
         self.turn, self.known, self.reported, self.points, self.ids = 0, set(), set(), [], 0
-        self.filters, self.by_lines, self.stops_on_entry = {"stop", "stuck"}, not image, self.arguments.get("stopOnEntry", True)
+        self.filters, self.by_lines, self.stops_on_entry = set(FILTERS), not image, self.arguments.get("stopOnEntry", True)
         self.respond()
         if told:
             self.tell("output", {"category": "stderr", "output": told.replace("ga144: ", "")})
@@ -144,8 +147,8 @@ class Session:
     # ---- breakpoints
 
     def do_setExceptionBreakpoints(self):
-        if not {"stop", "stuck"}.issuperset(self.arguments["filters"]):
-            raise Refused("setExceptionBreakpoints: the filters are stop and stuck")
+        if not set(FILTERS).issuperset(self.arguments["filters"]):
+            raise Refused("setExceptionBreakpoints: the filters are stop, stuck and broken")
         self.filters = set(self.arguments["filters"])
         self.respond()
 
@@ -289,7 +292,9 @@ class Session:
         if self.tells_stuck(self.reported):
             return None
         self.reported = before if "stuck" in self.filters else set()
+        expected = self.machine.expected if "broken" in self.filters else SessionExpectations([])
         while True:
+            held = {it: self.machine.chip[it].copy() for it in expected.written(number_of)}
             told, touched = self.event(first)
             if told is None:
                 break
@@ -302,6 +307,9 @@ class Session:
             if stops and ("stop" in self.filters or NODE_NAMES[stops[1]] == first):
                 node = NODE_NAMES[stops[1]]
                 return self.stands(node, "exception", f"node {name(node)} {self.shown.does(node)}")
+            line = expected.line_broken_by(self.machine, told, held)
+            if line is not None:
+                return self.stands(touched[-1], "exception", f"the expectation of line {line} is broken")
             if reached(told, touched):
                 return None if self.tells_stuck(before) else self.stands(first, "step", "step")
             if made % SLICE == 0:

@@ -36,10 +36,10 @@ class SessionExpectations:
         """The nodes whose writes some conditions ask for."""
         return [number_of(it.split(" ")[1]) for line in self.lines if line.words[0] == "never" for it in self.parts(line) if it.startswith("change ")]
 
-    def is_broken_by(self, machine, told, before):
-        """Whether the event with this text, the newest of the machine, breaks an expectation: none before it violates that."""
+    def line_broken_by(self, machine, told, before):
+        """The line of the first expectation that the event with this text, the newest of the machine, breaks: none before it violates that. Or None."""
         lines = [line for line in self.lines if self.breaks(line, machine, told, before)]
-        return bool(lines) and any(self.first_place(line, machine) == len(machine.events) - 1 for line in lines)
+        return next((line.line for line in lines if self.first_place(line, machine) == len(machine.events) - 1), None)
 
     def first_place(self, line, machine):
         """The place of the first event that violates an expectation, or None."""

@@ -252,7 +252,7 @@ class Explorer(Machine):
     def holds(self, condition, told, before):
         """Whether a condition holds right after the event with this text; `before` has some nodes as they were before it."""
         if condition == "broken":
-            return self.expected.is_broken_by(self, told, before)
+            return self.expected.line_broken_by(self, told, before) is not None
         kind, *words = condition.split(" ")
         event = told.split(" ")
         own = event[0] != "pass"

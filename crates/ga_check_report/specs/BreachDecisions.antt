@@ -27,7 +27,7 @@ breach_state_of_outcome Holds = None
 breach_state_of_outcome (Broken breach) = breach_state breach
 breach_state_of_outcome Unknown = None
 
--- what decides that the expectation isn't met on the state; nothing is said to where the search was cut
+-- what decides that the expectation isn't met on the state; there is no claim about states that the cut search didn't reach
 abbrev pub IsDecisionOfUnmetExpectation : EndSearchResult → NodeExpectation → ℕ → Option SearchFault → Option EndDecision → Type 0
 IsDecisionOfUnmetExpectation found expectation state None decision = IsEndDecided found.searched (CanReachEndMeetingExpectation found expectation) state decision
 IsDecisionOfUnmetExpectation found expectation state (Some fault) decision = decision ≡ None

@@ -65,7 +65,7 @@ node_row_fields kind n = node_end_fields n (node_end_at kind.nodes n) (slice_ind
 abbrev pub end_node_row : EndKind → ℕ → JsonItems → JsonItems
 end_node_row kind n rows = optional_json_row (is_listed_node_end (node_end_at kind.nodes n) (slice_index_or kind.unclean n false)) (node_row_fields kind n) rows
 
--- the rows of so many nodes from this one on
+-- the rows of a number of nodes, from this one on
 unfoldable pub end_node_rows : EndKind → ℕ → ℕ → JsonItems
 end_node_rows kind n zero = no_items
 end_node_rows kind n (suc more) = end_node_row kind n (end_node_rows kind (n + 1) more)
@@ -104,7 +104,7 @@ end_kinds_objects file decisions place (kind ∷ kinds) =
 
 -- ---- the whole answer
 
--- whether some order goes on for ever: before an end, or only at one
+-- whether some order never ends: before an end, or only at one
 abbrev pub endless_path_place_keyword : Bool → Bool → Text
 endless_path_place_keyword true cycle = codes "before"
 endless_path_place_keyword false true = codes "at an end"

@@ -44,6 +44,7 @@ pub record IsDefaultConfiguration (set : Configuration) : Type 0 where
   pub placed : set.points.placed.items ≡ []
   pub stops : set.stops ≡ true
   pub stuck : set.stuck ≡ true
+  pub broken : set.broken ≡ true
   pub number : set.points.next_id ≡ 1
 
 -- the program is that of the text; its nodes stand at load, to be run in this order

@@ -1,3 +1,4 @@
+pub mod Knowing
 pub mod Carrying
 pub mod Turning
 pub mod Unopened

@@ -8,6 +8,7 @@ ghost use Rattle.ga_dap.specs.Client.{ServesClient};
 use crate::session::Session;
 use crate::sources::{PendingInput, ProgramFiles};
 use crate::turn::{Progress, turn};
+use ga_dap_control::WatchedExpectations;
 use ga_dap_protocol::{FrameError, Inbox, Outbox};
 use ga_text::{WriteError, write_all};
 use std::alloc::Global;
@@ -57,6 +58,7 @@ pub fn serve_client<S: ProgramFiles, A: PendingInput, R: Read, W: Write>(
     let mut inbox = Inbox::new(alloc);
     let mut out = Outbox::new(alloc);
     let mut session = Session::new();
+    let mut watched: Option<WatchedExpectations> = None;
     'serving: for _ in 0..u64::MAX {
         if session.is_over {
             return SessionEnd::Done;
@@ -68,6 +70,7 @@ pub fn serve_client<S: ProgramFiles, A: PendingInput, R: Read, W: Write>(
             arrivals,
             &mut inbox,
             reader,
+            &mut watched,
             &mut out,
         ) {
             Progress::On => {}

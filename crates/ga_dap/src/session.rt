@@ -2,6 +2,7 @@
 
 ghost use Rattle.std.specs.Prelude.{◌≡◌, ◌&&◌, [], ◌∷◌, Option, Some, None, codes, string_bytes, is_some, option_map, OnOk, OnErr};
 ghost use Rattle.ga_dap_control.specs.Requests.{AnswersImmediateRequest};
+ghost use Rattle.ga_dap_control.specs.Watched.{AreOptionalExpectationsKnown};
 ghost use Rattle.ga_dap_control.specs.declared.launched.LaunchedSession.{LaunchedSession as ALaunched};
 ghost use Rattle.ga_dap_queries.specs.Sending.{SendsMessages, Messages, bare_success_response};
 ghost use Rattle.ga_dap.specs.Answering.{AnswersRequest, AnswersKnownRequest, AnswersRequestWhileLaunched, PerformsRequest, AnswersRequestIfLaunched, ChangesLaunchedProgramOnly, AnswersInitializeRequest, AnswersDisconnectRequest, AnswersTerminateRequest, program_with_run_ended, needs_stopped_chip, begins_run, request_refusal_reason};
@@ -16,7 +17,9 @@ use crate::console::evaluate;
 use crate::launching::launch_program;
 use crate::sources::ProgramFiles;
 use crate::unanswered::NoResponse;
-use ga_dap_control::{Execution, LaunchedSession, answer_immediate_request, make_event_slice};
+use ga_dap_control::{
+    Execution, LaunchedSession, WatchedExpectations, answer_immediate_request, make_event_slice,
+};
 use ga_dap_protocol::{ClientRequest, Outbox};
 use ga_dap_queries::{RequestName, parse_request_name, respond_initialize, thread_flags_by_node};
 use std::alloc::{AllocError, Global};
@@ -293,16 +296,21 @@ fn in_place(
 pub(crate) fn go_on_launched(
     alloc: Global,
     launched: &mut LaunchedSession,
+    watched: &mut Option<WatchedExpectations>,
     out: &mut Outbox,
 ) -> Result<(), NoResponse>
-    requires { out.old.bytes ≡ [] }
-    ensures { SendsReplyOrLacksMemory result (λ messages. MakesRunSlice launched.old messages launched.new) (Unit {0}) out.old out.new }
+    requires sent { out.old.bytes ≡ [] }
+    requires known { AreOptionalExpectationsKnown launched.old.program launched.old.settings watched.old }
+    ensures known { AreOptionalExpectationsKnown launched.new.program launched.new.settings watched.new }
+    ensures sends { SendsReplyOrLacksMemory result (λ messages. MakesRunSlice launched.old messages launched.new) (Unit {0}) out.old out.new }
 {
     let before = thread_flags_by_node(&launched.program.lab, launched.program.nodes.as_slice());
     let stop = make_event_slice(
+        alloc,
         &mut launched.program,
         &launched.settings,
         &mut launched.execution,
+        watched,
     );
     let (program, settings) = (&launched.program, &launched.settings);
     emit_slice_with_retry(alloc, program, settings, &before, &stop, out)

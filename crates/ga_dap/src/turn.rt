@@ -6,12 +6,14 @@ ghost use Rattle.ga_dap_protocol.specs.Inbox.{IsNextMessage};
 ghost use Rattle.ga_dap_protocol.specs.Messages.{HoldsNoRequest};
 ghost use Rattle.ga_dap_queries.specs.Sending.{SendsMessages};
 ghost use Rattle.ga_dap.specs.Client.{IsRequestReadDue, IsRequestInContent, has_session_active_run, invalid_request_output, out_of_memory_messages, request_error_text, empty_outbox_content};
+ghost use Rattle.ga_dap.specs.inner.Knowing.{AreExpectationsOfSessionKnown};
 ghost use Rattle.ga_dap.specs.inner.Turning.{AnswersRequestOrEnds, DeclinesRequestOrEndsSession, AnswersContentOrEnds, TakesMessageOrEnds, ContinuesRunOrEnds, MakesTurnOrEnds, server_state_of_parts};
 
 use crate::serving::SessionEnd;
 use crate::session::{Session, go_on_launched};
 use crate::sources::{PendingInput, ProgramFiles};
 use crate::unanswered::NoResponse;
+use ga_dap_control::WatchedExpectations;
 use ga_dap_protocol::{ClientRequest, Inbox, NextMessage, Outbox, RequestError, read_request};
 use ga_dap_queries::emit_output;
 use std::alloc::{AllocError, Global};
@@ -185,13 +187,20 @@ fn take<S: ProgramFiles, R: Read>(
 }
 
 /// Continues the run in progress, if there is one.
-fn go_on(alloc: Global, session: &mut Session, out: &mut Outbox) -> Progress
+fn go_on(
+    alloc: Global,
+    session: &mut Session,
+    watched: &mut Option<WatchedExpectations>,
+    out: &mut Outbox,
+) -> Progress
     requires running { has_session_active_run session.old ≡ true }
     requires sent { out.old.bytes ≡ [] }
-    ensures { ContinuesRunOrEnds session.old out.old result out.new session.new }
+    requires known { AreExpectationsOfSessionKnown session.old watched.old }
+    ensures known { AreExpectationsOfSessionKnown session.new watched.new }
+    ensures continues { ContinuesRunOrEnds session.old out.old result out.new session.new }
 {
     match &mut session.launched {
-        Some(launched) => match go_on_launched(alloc, launched, out) {
+        Some(launched) => match go_on_launched(alloc, launched, watched, out) {
             Ok(()) => Progress::On,
             Err(_) => Progress::End(SessionEnd::Memory),
         },
@@ -212,7 +221,7 @@ fn is_time<A: PendingInput>(session: &Session, inbox: &Inbox, arrivals: &mut A) 
     arrivals.have_requests_come()
 }
 
-/// One turn of a session.
+/// One turn of a session. `watched` is what is known of the expectations that the run in progress watches, since the last request.
 #[tactic(auto, using(crate::proofs::Turned::turned_so, crate::proofs::Turned::gone_on_so))]
 pub(crate) fn turn<S: ProgramFiles, A: PendingInput, R: Read>(
     alloc: Global,
@@ -221,17 +230,22 @@ pub(crate) fn turn<S: ProgramFiles, A: PendingInput, R: Read>(
     arrivals: &mut A,
     inbox: &mut Inbox,
     reader: &mut R,
+    watched: &mut Option<WatchedExpectations>,
     out: &mut Outbox,
 ) -> Progress
-    requires { out.old.bytes ≡ [] }
-    ensures { (left : Bytes) → R.remaining reader.old ≡ Some left →
+    requires sent { out.old.bytes ≡ [] }
+    requires known { AreExpectationsOfSessionKnown session.old watched.old }
+    ensures known { AreExpectationsOfSessionKnown session.new watched.new }
+    ensures turn { (left : Bytes) → R.remaining reader.old ≡ Some left →
         (rest : Bytes) × (R.remaining reader.new ≡ Some rest)
         × MakesTurnOrEnds S.gives A.tells (server_state_of_parts sources.old arrivals.old session.old out.old.seq inbox.old left) result out.new.bytes
         (server_state_of_parts sources.new arrivals.new session.new out.new.seq inbox.new rest) }
 {
     if is_time(session, inbox, arrivals) {
+        // A request may change the machine, or what is watched.
+        *watched = None;
         take(alloc, session, sources, inbox, reader, out)
     } else {
-        go_on(alloc, session, out)
+        go_on(alloc, session, watched, out)
     }
 }

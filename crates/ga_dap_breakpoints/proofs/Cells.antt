@@ -1,8 +1,8 @@
 -- The cells that are kept of words are those that looking back finds, so that the hits by them are the hits.
 use Rattle.ga_event.specs.declared.event.Event.TheVariants as event
 use Rattle.ga_event.specs.declared.made.MadeEvent.TheVariants as made
-use Rattle.std.proofs.Common.{◌≡◌, ℕ, zero, suc, ◌+◌, ◌≤◌, Bool, true, false, ◌&&◌, cond, List, [], ◌∷◌, length, take, Option, Some, IsSome, refl, sym, ◌∙◌, ap, arith, ◌≢◌, ◌-◌, ◌==◌, not, ◌++◌, length-append, None, Ok, Err, inl, inr, subst}
-use Rattle.std.specs.Prelude.{option_and_then, unwrap_or, Result, ◌⊎◌, option_to_list, slice_set, slice_index_or, replicate}
+use Rattle.std.proofs.Common.{◌≡◌, ℕ, zero, suc, ◌+◌, ◌≤◌, Bool, true, false, ◌&&◌, cond, List, [], ◌∷◌, length, take, Option, Some, IsSome, refl, sym, ◌∙◌, ap, arith, ◌≢◌, ◌-◌, ◌==◌, not, ◌++◌, length-append, None, Ok, inl, inr, subst}
+use Rattle.std.specs.Prelude.{option_and_then, unwrap_or, ◌⊎◌, option_to_list, slice_set, slice_index_or, replicate}
 use Rattle.ga_event.specs.declared.made.MadeEvent.{MadeEvent}
 use Rattle.std.proofs.lemmas.List.Sums.{sum_by-cons}
 use Rattle.std.proofs.lemmas.Option.{same_Some}
@@ -23,25 +23,24 @@ use Rattle.ga_dap_views.specs.declared.spots.SlotAddress.{SlotAddress}
 use Rattle.ga_dap_breakpoints.specs.Back.{is_at_slot_address, can_event_reach_slot, reaches_slot}
 use Rattle.ga_dap_views.specs.Spots.{slot_address_after_steps, slot_address_of_node_record}
 use Rattle.std.specs.List.{slice_get}
-use Rattle.std.specs.Result.{result_ok}
 use Rattle.std.proofs.lemmas.Bool.{ne_eqb}
 use Rattle.std.proofs.lemmas.Bool.Decides.{eqb_tells}
 use Rattle.ga_node.specs.declared.kind.EventRefusal.{EventRefusal}
 use Rattle.ga_grid.proofs.NodeIds.{NodeId-same}
-use Rattle.ga_lab.specs.declared.fault.LabFault.{LabFault}
 use Rattle.ga_provenance.specs.Fetched.{fetched_cell}
 use Rattle.ga_scheduler.specs.Conditions.{is_step_of_node}
-use Rattle.ga_scheduler.specs.Running.{ScheduledMachine, next_event_of_optional_node, run_after_step}
+use Rattle.ga_scheduler.specs.Running.{ScheduledMachine, run_after_step}
+use Rattle.ga_scheduler.specs.Watched.{IsRunStep}
 use Rattle.ga_dap_breakpoints.specs.declared.back.WatchedAction.{WatchedAction}
 use Rattle.ga_dap_breakpoints.specs.declared.back.WatchedAction.TheVariants.{ArrivesAtSlot, WritesWatchedCell}
 use Rattle.ga_dap_breakpoints.specs.declared.breakpoint.Breakpoint.{Breakpoint}
 use Rattle.ga_dap_breakpoints.specs.declared.hits.HitTally.{HitTally}
-use Rattle.ga_dap_breakpoints.specs.Breakpoints.{is_watched_event, tally_with_hit, tally_after_breakpoint, tally_after_breakpoints}
+use Rattle.ga_dap_breakpoints.specs.Breakpoints.{is_watched_event, tally_with_hit, tally_after_breakpoint, tally_after_breakpoints, tally_after_event}
 use Rattle.ga_dap_breakpoints.specs.Conditions.{is_optional_value_test_passed}
-use Rattle.ga_dap_breakpoints.specs.Going.{tally_after_optional_event}
 use Rattle.ga_dap_breakpoints.specs.inner.Words.{event_kind_keeps_instruction_word, is_wait_for_code, event_keeps_instruction_word, instruction_cell_after_step, instruction_cell_after_event}
 use Rattle.ga_dap_breakpoints.specs.inner.Cells.{InstructionCellsByNode, instruction_cells_kept_after_event, known_or_fetched_cell, instruction_cell_of_node, is_node_within_word_at_slot, instruction_cells_with_node_cell, instruction_cells_with_needed_cell, newest_step_arrives_at_slot, is_watched_event_by_cells, instruction_cells_after_watch, tally_after_breakpoints_by_cells, instruction_cells_after_breakpoints, tally_after_event_by_cells, instruction_cells_after_event}
-use Rattle.ga_dap_breakpoints.proofs.Following.{IsCounted, IsWell, IsWord, Step, step_of, steps_more, word_more, well_more, refused_stays, well_next}
+use Rattle.ga_dap_breakpoints.specs.inner.Halting.{IsInstructionCell, AreInstructionCells}
+use Rattle.ga_dap_breakpoints.proofs.Following.{IsCounted, IsWell, Step, step_of, steps_more, word_more, well_more, well_next}
 
 -- ---- A node's present state is its state after all its steps
 
@@ -139,46 +138,42 @@ set_tells (y ∷ ys) (suc i) (suc j) a x h = elim (set_tells ys i j a x h) [
   | inr other ↦ inr (λ e. other.0 (omega (arith, e)), other.1)
 ]
 
--- each is the one that looking back finds
-abbrev pub IsKnown : MachineState → InstructionCellsByNode → Type 0
-IsKnown s cells = (node : NodeId) (cell : Option ℕ) → slice_index_or cells node.number None ≡ Some cell → IsWord s node cell
-
 same_there : (k n : ℕ) (d : Option (Option ℕ)) → slice_index_or (replicate k d) n d ≡ d
 same_there zero n d = refl
 same_there (suc k) zero d = refl
 same_there (suc k) (suc n) d = same_there k n d
 
-pub none_known : (s : MachineState) → IsKnown s (replicate 144 None)
+pub none_known : (s : MachineState) → AreInstructionCells s (replicate 144 None)
 none_known s node cell h = absurd (let none = same_there 144 node.number None in cc)
 
-cell_is : (s : MachineState) (cells : InstructionCellsByNode) (node : NodeId) → IsKnown s cells → IsWord s node (instruction_cell_of_node s cells node)
+cell_is : (s : MachineState) (cells : InstructionCellsByNode) (node : NodeId) → AreInstructionCells s cells → IsInstructionCell s node (instruction_cell_of_node s cells node)
 cell_is s cells node known = go (slice_index_or cells node.number None) refl
   where
-    go : (o : Option (Option ℕ)) → slice_index_or cells node.number None ≡ o → IsWord s node (known_or_fetched_cell s node o)
+    go : (o : Option (Option ℕ)) → slice_index_or cells node.number None ≡ o → IsInstructionCell s node (known_or_fetched_cell s node o)
     go None at = refl
     go (Some cell) at = known node cell at
 
-known_with : (s : MachineState) (cells : InstructionCellsByNode) (n : NodeId) → IsKnown s cells → IsKnown s (instruction_cells_with_node_cell n.number (instruction_cell_of_node s cells n) cells)
+known_with : (s : MachineState) (cells : InstructionCellsByNode) (n : NodeId) → AreInstructionCells s cells → AreInstructionCells s (instruction_cells_with_node_cell n.number (instruction_cell_of_node s cells n) cells)
 known_with s cells n known node cell h = elim (set_tells cells n.number node.number (Some (instruction_cell_of_node s cells n)) cell h) [
   | inl same ↦ sym (same_Some (instruction_cell_of_node s cells n) cell same.1) ∙ cell_is s cells n known ∙ ap (λ (z : NodeId). fetched_cell s z (count_steps z.number s.kept)) (sym (NodeId-same node n same.0))
   | inr other ↦ known node cell other.1
 ]
 
-known_asked : (asked : Bool) (s : MachineState) (cells : InstructionCellsByNode) (n : NodeId) → IsKnown s cells → IsKnown s (instruction_cells_with_needed_cell asked s n cells)
+known_asked : (asked : Bool) (s : MachineState) (cells : InstructionCellsByNode) (n : NodeId) → AreInstructionCells s cells → AreInstructionCells s (instruction_cells_with_needed_cell asked s n cells)
 known_asked true s cells n known = known_with s cells n known
 known_asked false s cells n known = known
 
-known_done : (watched : WatchedAction) (n : NodeId) (told : MadeEvent) (s : MachineState) (cells : InstructionCellsByNode) → IsKnown s cells → IsKnown s (instruction_cells_after_watch watched n told s cells)
+known_done : (watched : WatchedAction) (n : NodeId) (told : MadeEvent) (s : MachineState) (cells : InstructionCellsByNode) → AreInstructionCells s cells → AreInstructionCells s (instruction_cells_after_watch watched n told s cells)
 known_done (ArrivesAtSlot at) n told s cells known = known_asked (is_step_of_node n.number told && is_node_within_word_at_slot at (node_record_at (chip_of_machine s) n.number)) s cells n known
 known_done (WritesWatchedCell address) n told s cells known = known
 
-known_from : (told : MadeEvent) (s : MachineState) (breakpoints : List Breakpoint) (cells : InstructionCellsByNode) → IsKnown s cells → IsKnown s (instruction_cells_after_breakpoints told s breakpoints cells)
+known_from : (told : MadeEvent) (s : MachineState) (breakpoints : List Breakpoint) (cells : InstructionCellsByNode) → AreInstructionCells s cells → AreInstructionCells s (instruction_cells_after_breakpoints told s breakpoints cells)
 known_from told s [] cells known = known
 known_from told s (one ∷ rest) cells known = known_from told s rest (instruction_cells_after_watch one.watched one.node told s cells) (known_done one.watched one.node told s cells known)
 
 -- ---- the hits by the cells
 
-comes_alike : (s : MachineState) (node : NodeId) (at : SlotAddress) (cell : Option ℕ) → IsSome (replay s.load s.kept) → IsWord s node cell → newest_step_arrives_at_slot s node at cell ≡ reaches_slot s node at (count_steps node.number s.kept - 1)
+comes_alike : (s : MachineState) (node : NodeId) (at : SlotAddress) (cell : Option ℕ) → IsSome (replay s.load s.kept) → IsInstructionCell s node cell → newest_step_arrives_at_slot s node at cell ≡ reaches_slot s node at (count_steps node.number s.kept - 1)
 comes_alike s node at cell some is =
     let n : ℕ = count_steps node.number s.kept in
     let counted : n ≡ length (history_of_node s node.number) = (well_of s some node.number).counted in
@@ -193,11 +188,11 @@ comes_alike s node at cell some is =
           ∙ ap (λ (z : ℕ). came && is_at_slot_address at (slot_address_after_steps s node z)) e)
     ]
 
-done_alike : (watched : WatchedAction) (node : NodeId) (told : MadeEvent) (s : MachineState) (cells : InstructionCellsByNode) → IsSome (replay s.load s.kept) → IsKnown s cells → is_watched_event_by_cells watched node told s cells ≡ is_watched_event watched node told s
+done_alike : (watched : WatchedAction) (node : NodeId) (told : MadeEvent) (s : MachineState) (cells : InstructionCellsByNode) → IsSome (replay s.load s.kept) → AreInstructionCells s cells → is_watched_event_by_cells watched node told s cells ≡ is_watched_event watched node told s
 done_alike (ArrivesAtSlot at) node told s cells some known = ap (λ (b : Bool). is_step_of_node node.number told && b) (comes_alike s node at (instruction_cell_of_node s cells node) some (cell_is s cells node known))
 done_alike (WritesWatchedCell address) node told s cells some known = refl
 
-counted_alike : (told : MadeEvent) (s : MachineState) (place : ℕ) (breakpoints : List Breakpoint) (cells : InstructionCellsByNode) (tally : HitTally) → IsSome (replay s.load s.kept) → IsKnown s cells
+counted_alike : (told : MadeEvent) (s : MachineState) (place : ℕ) (breakpoints : List Breakpoint) (cells : InstructionCellsByNode) (tally : HitTally) → IsSome (replay s.load s.kept) → AreInstructionCells s cells
     → tally_after_breakpoints_by_cells told s place breakpoints cells tally ≡ tally_after_breakpoints told s place breakpoints tally
 counted_alike told s place [] cells tally some known = refl
 counted_alike told s place (one ∷ rest) cells tally some known =
@@ -241,7 +236,7 @@ stays_so s m told by node cell counted left = go (is_step_of_node node.number to
         sym (ap (λ (o : Option MadeEvent). cond (event_keeps_instruction_word o (node_after_steps t node.number k) node.number) cell (fetched_cell t node (k + 1))) (newest_own s m told by node.number counted own)
         ∙ ap (λ (b : Bool). cond b cell (fetched_cell t node (k + 1))) (left (node_after_steps t node.number k) own))
 
-left_stays : (s : MachineState) (m : NodeId) (told : MadeEvent) (by : Step s m told) (node : NodeId) (cell : Option ℕ) → IsCounted s node.number → IsLeft told node.number → IsWord s node cell → IsWord (state_after_step s m) node cell
+left_stays : (s : MachineState) (m : NodeId) (told : MadeEvent) (by : Step s m told) (node : NodeId) (cell : Option ℕ) → IsCounted s node.number → IsLeft told node.number → IsInstructionCell s node cell → IsInstructionCell (state_after_step s m) node cell
 left_stays s m told by node cell counted left is = stays_so s m told by node cell counted left ∙ word_more s m told by node cell counted is
 
 not_read : (n reader : ℕ) (b : Bool) → (n ≡ reader → ⊥) → cond (n == reader) b true ≡ true
@@ -251,7 +246,7 @@ no_other : (b : Bool) → b ≡ false → b ≡ true → (c : Bool) → c ≡ tr
 no_other true none some c = absurd (cc)
 no_other false none some c = absurd (cc)
 
-known_left : (s : MachineState) (m : NodeId) (told : MadeEvent) (cells : InstructionCellsByNode) → IsSome (replay s.load s.kept) → step_answer s m ≡ Ok told → IsKnown s cells → IsKnown (state_after_step s m) (instruction_cells_kept_after_event told cells)
+known_left : (s : MachineState) (m : NodeId) (told : MadeEvent) (cells : InstructionCellsByNode) → IsSome (replay s.load s.kept) → step_answer s m ≡ Ok told → AreInstructionCells s cells → AreInstructionCells (state_after_step s m) (instruction_cells_kept_after_event told cells)
 known_left s m (made.Own x step kind) cells some h known = go (event_kind_keeps_instruction_word kind) refl
   where
     told : MadeEvent
@@ -260,7 +255,7 @@ known_left s m (made.Own x step kind) cells some h known = go (event_kind_keeps_
     by : Step s m told
     by = step_of s m told some h
 
-    go : (b : Bool) → event_kind_keeps_instruction_word kind ≡ b → IsKnown (state_after_step s m) (cond b cells (slice_set cells x.number None))
+    go : (b : Bool) → event_kind_keeps_instruction_word kind ≡ b → AreInstructionCells (state_after_step s m) (cond b cells (slice_set cells x.number None))
     go true keeps = λ node cell at. left_stays s m told by node cell (well_of s some node.number).counted (λ before own. keeps) (known node cell at)
     go false takes = λ node cell at. elim (set_tells cells x.number node.number None cell at) [
       | inl same ↦ absurd (let none = same.1 in cc)
@@ -274,48 +269,24 @@ known_left s m (made.Pass writer i reader j word) cells some h known =
           (λ before own. not_read node.number reader.number (not (is_wait_for_code before.wait)) other.0) (known node cell other.1)
     ]
 
+-- ---- after a step of a run
+
+-- the hits by the cells are the hits
+pub tally_after_step : (s t : MachineState) (told : MadeEvent) → IsRunStep s t told → (breakpoints : List Breakpoint) (cells : InstructionCellsByNode) (tally : HitTally) → AreInstructionCells s cells
+    → tally_after_event_by_cells breakpoints told t cells tally ≡ tally_after_event breakpoints told t tally
+tally_after_step s t told step breakpoints cells tally known =
+    subst (λ (z : MachineState). tally_after_event_by_cells breakpoints told z cells tally ≡ tally_after_event breakpoints told z tally) (sym step.moved)
+    (counted_alike told (state_after_step s step.node) 0 breakpoints (instruction_cells_kept_after_event told cells) (record tally { hit = None }) (well_more s step.node told 0 step.told (well_of s step.replays 0)).replays
+    (known_left s step.node told cells step.replays step.told known))
+
+-- the cells are known after it
+pub cells_after_step : (s t : MachineState) (told : MadeEvent) → IsRunStep s t told → (breakpoints : List Breakpoint) (cells : InstructionCellsByNode) → AreInstructionCells s cells
+    → AreInstructionCells t (instruction_cells_after_event breakpoints told t cells)
+cells_after_step s t told step breakpoints cells known =
+    subst (λ (z : MachineState). AreInstructionCells z (instruction_cells_after_event breakpoints told z cells)) (sym step.moved)
+    (known_from told (state_after_step s step.node) breakpoints (instruction_cells_kept_after_event told cells) (known_left s step.node told cells step.replays step.told known))
+
 -- ---- along a run
-
-abbrev pub cells_told : List Breakpoint → Option MadeEvent → MachineState → InstructionCellsByNode → InstructionCellsByNode
-cells_told breakpoints None s cells = cells
-cells_told breakpoints (Some told) s cells = instruction_cells_after_event breakpoints told s cells
-
-abbrev pub tally_told_by : List Breakpoint → HitTally → InstructionCellsByNode → Option MadeEvent → MachineState → HitTally
-tally_told_by breakpoints tally cells None s = tally
-tally_told_by breakpoints tally cells (Some told) s = tally_after_event_by_cells breakpoints told s cells tally
-
-pub known_next : (r : ScheduledMachine) (o : Option NodeId) (breakpoints : List Breakpoint) (cells : InstructionCellsByNode) → IsSome (replay r.state.load r.state.kept) → IsKnown r.state cells
-    → IsKnown (run_after_step r o).state (cells_told breakpoints (next_event_of_optional_node r.state o) (run_after_step r o).state cells)
-known_next r None breakpoints cells some known = known
-known_next r (Some m) breakpoints cells some known = go (step_answer r.state m) refl
-  where
-    t : MachineState
-    t = state_after_step r.state m
-
-    go : (a : Result MadeEvent LabFault) → step_answer r.state m ≡ a → IsKnown t (cells_told breakpoints (result_ok (step_answer r.state m)) t cells)
-    go (Ok told) at =
-        subst (λ (o : Option MadeEvent). IsKnown t (cells_told breakpoints o t cells)) (sym (ap result_ok at))
-        (known_from told t breakpoints (instruction_cells_kept_after_event told cells) (known_left r.state m told cells some at known))
-    go (Err why) at =
-        subst (λ (o : Option MadeEvent). IsKnown t (cells_told breakpoints o t cells)) (sym (ap result_ok at)) (subst (λ (z : MachineState). IsKnown z cells) (refused_stays r.state m why at) known)
-
-pub tally_next : (r : ScheduledMachine) (o : Option NodeId) (breakpoints : List Breakpoint) (cells : InstructionCellsByNode) (tally : HitTally) → IsSome (replay r.state.load r.state.kept) → IsKnown r.state cells
-    → tally_told_by breakpoints tally cells (next_event_of_optional_node r.state o) (run_after_step r o).state ≡ tally_after_optional_event breakpoints tally (next_event_of_optional_node r.state o) (run_after_step r o).state
-tally_next r None breakpoints cells tally some known = refl
-tally_next r (Some m) breakpoints cells tally some known = go (step_answer r.state m) refl
-  where
-    t : MachineState
-    t = state_after_step r.state m
-
-    go : (a : Result MadeEvent LabFault) → step_answer r.state m ≡ a
-        → tally_told_by breakpoints tally cells (result_ok (step_answer r.state m)) t ≡ tally_after_optional_event breakpoints tally (result_ok (step_answer r.state m)) t
-    go (Ok told) at =
-        ap (λ (o : Option MadeEvent). tally_told_by breakpoints tally cells o t) (ap result_ok at)
-        ∙ counted_alike told t 0 breakpoints (instruction_cells_kept_after_event told cells) (record tally { hit = None }) (well_more r.state m told 0 at (well_of r.state some 0)).replays
-        (known_left r.state m told cells some at known)
-        ∙ sym (ap (λ (o : Option MadeEvent). tally_after_optional_event breakpoints tally o t) (ap result_ok at))
-    go (Err why) at =
-        ap (λ (o : Option MadeEvent). tally_told_by breakpoints tally cells o t) (ap result_ok at) ∙ sym (ap (λ (o : Option MadeEvent). tally_after_optional_event breakpoints tally o t) (ap result_ok at))
 
 pub replays_next : (r : ScheduledMachine) (o : Option NodeId) → IsSome (replay r.state.load r.state.kept) → IsSome (replay (run_after_step r o).state.load (run_after_step r o).state.kept)
 replays_next r o some = (well_next r o 0 (well_of r.state some 0)).replays

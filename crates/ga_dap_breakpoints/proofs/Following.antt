@@ -2,8 +2,6 @@
 use Rattle.std.proofs.Common.{◌≡◌, ◌≢◌, ℕ, zero, suc, ◌+◌, ◌-◌, ◌<◌, ◌≤◌, ◌==◌, Bool, true, false, not, ◌&&◌, cond, List, [], ◌∷◌, ◌++◌, length, take, length-append, Option, Some, None, Ok, Err, IsSome, inl, inr, refl, sym, subst, ◌∙◌, ap, arith, eq-eqb}
 use Rattle.std.specs.Prelude.{Result, is_none, option_map, option_to_list, unwrap_or}
 use Rattle.std.specs.List.{slice_get}
-use Rattle.std.specs.Result.{result_ok}
-use Rattle.std.proofs.lemmas.Option.{same_Some}
 use Rattle.std.proofs.lemmas.Bool.{ne_eqb}
 use Rattle.std.proofs.lemmas.Bool.Decides.{eqb_tells}
 use Rattle.std.proofs.lemmas.List.{take-append-le}
@@ -42,7 +40,8 @@ use Rattle.ga_provenance.specs.inner.{source_part_by_event_kind}
 use Rattle.ga_provenance.proofs.Made.{moved_on}
 use Rattle.ga_provenance.proofs.Moves.{one_back}
 use Rattle.ga_scheduler.specs.Conditions.{is_step_of_node}
-use Rattle.ga_scheduler.specs.Running.{ScheduledMachine, next_event_of_optional_node, run_after_step}
+use Rattle.ga_scheduler.specs.Running.{ScheduledMachine, run_after_step}
+use Rattle.ga_scheduler.specs.Watched.{IsRunStep}
 use Rattle.ga_scheduler.proofs.Newest.{of_made}
 use Rattle.ga_scheduler.proofs.Stepping.{StepIs, step_is, stepped_is}
 use Rattle.ga_scheduler.proofs.WordCounts.{last_of, history_behind, kept_told}
@@ -54,6 +53,7 @@ use Rattle.ga_dap_breakpoints.specs.declared.stepping.Granularity.TheVariants.{I
 use Rattle.ga_dap_breakpoints.specs.declared.stepping.StepMove.{StepMove}
 use Rattle.ga_dap_breakpoints.specs.Stepping.{pending_call_after_step, reaches_move_end, completes_move}
 use Rattle.ga_dap_breakpoints.specs.Lines.{op_of_step, previous_step_count_over_calls, line_of_slot_address, enters_line, begins_line_after_step}
+use Rattle.ga_dap_breakpoints.specs.inner.Halting.{IsInstructionCell}
 use Rattle.ga_dap_breakpoints.specs.inner.Words.{event_kind_keeps_instruction_word, is_wait_for_code, event_keeps_instruction_word, instruction_cell_after_step, instruction_cell_after_event, previous_slot_address_over_calls, begins_line_by_cells, reaches_move_end_by_cell, completes_move_by_cell}
 
 -- ---- a step that leaves the word
@@ -304,16 +304,12 @@ pub well_more : (s : MachineState) (m : NodeId) (told : MadeEvent) (n : ℕ) →
 well_more s m told n h well =
     record { replays = runs_some (state_after_step s m) (call_runs s (call_step m) (runs_of s well.replays)); counted = counted_more s m told (step_of s m told well.replays h) n well.counted }
 
--- a node's word is the one that was followed: before the event and, if it was a step of the node, after it
-abbrev pub IsWord : MachineState → NodeId → Option ℕ → Type 0
-IsWord s node word = word ≡ fetched_cell s node (count_steps node.number s.kept)
-
-before_more : (s : MachineState) (m : NodeId) (told : MadeEvent) (by : Step s m told) (node : NodeId) (word : Option ℕ) → IsCounted s node.number → IsWord s node word
+before_more : (s : MachineState) (m : NodeId) (told : MadeEvent) (by : Step s m told) (node : NodeId) (word : Option ℕ) → IsCounted s node.number → IsInstructionCell s node word
     → word ≡ fetched_cell (state_after_step s m) node (count_steps node.number s.kept)
 before_more s m told by node word counted is = is ∙ sym (fetched_stays s (state_after_step s m) by.more node counted (count_steps node.number s.kept) (omega arith))
 
-pub word_more : (s : MachineState) (m : NodeId) (told : MadeEvent) (by : Step s m told) (node : NodeId) (word : Option ℕ) → IsCounted s node.number → IsWord s node word
-    → IsWord (state_after_step s m) node (instruction_cell_after_event node word told (state_after_step s m))
+pub word_more : (s : MachineState) (m : NodeId) (told : MadeEvent) (by : Step s m told) (node : NodeId) (word : Option ℕ) → IsCounted s node.number → IsInstructionCell s node word
+    → IsInstructionCell (state_after_step s m) node (instruction_cell_after_event node word told (state_after_step s m))
 word_more s m told by node word counted is = go (is_step_of_node node.number told) (steps_more s m told by node.number)
   where
     go : (b : Bool) → count_steps node.number (state_after_step s m).kept ≡ count_steps node.number s.kept + cond b 1 0
@@ -329,7 +325,7 @@ word_more s m told by node word counted is = go (is_step_of_node node.number tol
 
 -- ---- a move that is watched by the cell ends where it does by looking back
 
-reach_alike : (notes : DebugInfo) (by : StepMove) (s : MachineState) (m : NodeId) (told : MadeEvent) (step : Step s m told) (word : Option ℕ) → IsCounted s by.node.number → (by.grain ≡ Line → IsWord s by.node word)
+reach_alike : (notes : DebugInfo) (by : StepMove) (s : MachineState) (m : NodeId) (told : MadeEvent) (step : Step s m told) (word : Option ℕ) → IsCounted s by.node.number → (by.grain ≡ Line → IsInstructionCell s by.node word)
     → is_step_of_node by.node.number told ≡ true → (grain : Granularity) → by.grain ≡ grain
     → reaches_move_end_by_cell grain by.began notes by.node (state_after_step s m) (count_steps by.node.number (state_after_step s m).kept - 1) word (instruction_cell_after_event by.node word told (state_after_step s m))
     ≡ reaches_move_end grain by.began notes by.node (state_after_step s m) (count_steps by.node.number (state_after_step s m).kept - 1)
@@ -342,7 +338,7 @@ reach_alike notes by s m told step word counted right own Line is =
     (before_more s m told step by.node word counted (right is) ∙ ap (fetched_cell t by.node) (let e : count_steps n s.kept ≡ count_steps n t.kept - 1 = omega (arith, all) in e))
     (word_more s m told step by.node word counted (right is) ∙ ap (fetched_cell t by.node) (let e : count_steps n t.kept ≡ count_steps n t.kept - 1 + 1 = omega (arith, all) in e))
 
-moved_step : (notes : DebugInfo) (by : StepMove) (s : MachineState) (m : NodeId) (told : MadeEvent) (step : Step s m told) (word : Option ℕ) → IsCounted s by.node.number → (by.grain ≡ Line → IsWord s by.node word)
+moved_step : (notes : DebugInfo) (by : StepMove) (s : MachineState) (m : NodeId) (told : MadeEvent) (step : Step s m told) (word : Option ℕ) → IsCounted s by.node.number → (by.grain ≡ Line → IsInstructionCell s by.node word)
     → completes_move_by_cell notes by word told (state_after_step s m) ≡ completes_move notes by told (state_after_step s m)
 moved_step notes by s m told step word counted right = go (is_step_of_node by.node.number told) refl
   where
@@ -355,10 +351,6 @@ moved_step notes by s m told step word counted right = go (is_step_of_node by.no
 
 -- ---- along a run
 
-abbrev pub word_told : NodeId → Option ℕ → Option MadeEvent → MachineState → Option ℕ
-word_told node word None s = word
-word_told node word (Some told) s = instruction_cell_after_event node word told s
-
 pub refused_stays : (s : MachineState) (m : NodeId) (why : LabFault) → step_answer s m ≡ Err why → s ≡ state_after_step s m
 refused_stays s m why is = sym (ap (λ (a : Result MadeEvent LabFault). state_unless_refused s a (machine_with_event s (next_event_of_node (chip_of_machine s) m))) is)
 
@@ -370,24 +362,18 @@ well_next r (Some m) n well = go (step_answer r.state m) refl
     go (Ok told) is = well_more r.state m told n is well
     go (Err why) is = subst (λ (z : MachineState). IsWell z n) (refused_stays r.state m why is) well
 
-pub word_next : (r : ScheduledMachine) (o : Option NodeId) (node : NodeId) (word : Option ℕ) → IsWell r.state node.number → IsWord r.state node word
-    → IsWord (run_after_step r o).state node (word_told node word (next_event_of_optional_node r.state o) (run_after_step r o).state)
-word_next r None node word well is = is
-word_next r (Some m) node word well is = go (step_answer r.state m) refl
-  where
-    go : (a : Result MadeEvent LabFault) → step_answer r.state m ≡ a → IsWord (state_after_step r.state m) node (word_told node word (result_ok (step_answer r.state m)) (state_after_step r.state m))
-    go (Ok told) at =
-        ap (λ (z : Option MadeEvent). word_told node word z (state_after_step r.state m)) (ap result_ok at)
-        ∙ word_more r.state m told (step_of r.state m told well.replays at) node word well.counted is
-    go (Err why) at =
-        ap (λ (z : Option MadeEvent). word_told node word z (state_after_step r.state m)) (ap result_ok at) ∙ subst (λ (z : MachineState). IsWord z node word) (refused_stays r.state m why at) is
+-- ---- a step of a run
 
-pub moved_alike : (notes : DebugInfo) (by : StepMove) (word : Option ℕ) (r : ScheduledMachine) (o : Option NodeId) (told : MadeEvent) → next_event_of_optional_node r.state o ≡ Some told → IsWell r.state by.node.number
-    → (by.grain ≡ Line → IsWord r.state by.node word) → completes_move_by_cell notes by word told (run_after_step r o).state ≡ completes_move notes by told (run_after_step r o).state
-moved_alike notes by word r None told h well right = absurd (cc)
-moved_alike notes by word r (Some m) told h well right = go (step_answer r.state m) refl h
-  where
-    go : (a : Result MadeEvent LabFault) → step_answer r.state m ≡ a → result_ok a ≡ Some told → completes_move_by_cell notes by word told (state_after_step r.state m) ≡ completes_move notes by told (state_after_step r.state m)
-    go (Err why) is k = absurd (cc)
-    go (Ok other) is k =
-        moved_step notes by r.state m told (step_of r.state m told well.replays (is ∙ ap (λ (z : MadeEvent). Ok z) (same_Some other told k))) word well.counted right
+-- the move is complete by the cell where it is by looking back
+pub completed_alike : (notes : DebugInfo) (by : StepMove) (word : Option ℕ) (s t : MachineState) (told : MadeEvent) → IsRunStep s t told → IsCounted s by.node.number → (by.grain ≡ Line → IsInstructionCell s by.node word)
+    → completes_move_by_cell notes by word told t ≡ completes_move notes by told t
+completed_alike notes by word s t told step counted right =
+    subst (λ (z : MachineState). completes_move_by_cell notes by word told z ≡ completes_move notes by told z) (sym step.moved)
+    (moved_step notes by s step.node told (step_of s step.node told step.replays step.told) word counted right)
+
+-- the cell is that of the node's word after it
+pub cell_after_step : (s t : MachineState) (told : MadeEvent) → IsRunStep s t told → (node : NodeId) (word : Option ℕ) → IsCounted s node.number → IsInstructionCell s node word
+    → IsInstructionCell t node (instruction_cell_after_event node word told t)
+cell_after_step s t told step node word counted is =
+    subst (λ (z : MachineState). IsInstructionCell z node (instruction_cell_after_event node word told z)) (sym step.moved)
+    (word_more s step.node told (step_of s step.node told step.replays step.told) node word counted is)

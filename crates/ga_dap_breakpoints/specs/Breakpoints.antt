@@ -16,6 +16,8 @@ use Rattle.ga_scheduler.specs.Conditions.{is_step_of_node, is_stop_event_kind, i
 use Rattle.ga_dap_breakpoints.specs.declared.back.WatchedAction.{WatchedAction}
 use Rattle.ga_dap_breakpoints.specs.declared.back.WatchedAction.TheVariants.{ArrivesAtSlot, WritesWatchedCell}
 use Rattle.ga_dap_breakpoints.specs.Back.{reaches_slot}
+use Rattle.ga_state_expectations.specs.declared.source.LineExpectation.{LineExpectation}
+use Rattle.ga_state_expectations.specs.Breaking.{breaks_one_expectation}
 use Rattle.ga_dap_views.specs.Spots.{slot_address}
 use Rattle.ga_dap_breakpoints.specs.declared.breakpoint.Breakpoint.{Breakpoint}
 use Rattle.ga_dap_breakpoints.specs.declared.breakpoint.LineBreakpoint.{LineBreakpoint}
@@ -94,6 +96,7 @@ is_stop_event_of_node (Some node) told = is_node_own_event_of_kind node.number i
 abbrev pub is_move_ending_stop : Bool → Option NodeId → MadeEvent → Bool
 is_move_ending_stop stops node told = stops && is_own_event_of_kind is_stop_event_kind told || is_stop_event_of_node node told
 
--- what was made ends a move early: it hits a breakpoint, with the hits so far, or is a stop that ends the move
-abbrev pub ends_move_early : List Breakpoint → HitTally → Bool → Option NodeId → MadeEvent → MachineState → Bool
-ends_move_early breakpoints tally stops node told s = is_some (tally_after_event breakpoints told s tally).hit || is_move_ending_stop stops node told
+-- What was made ends a move early: it hits a breakpoint, with the hits so far, is a stop that ends the move, or broke an expectation.
+abbrev pub ends_move_early : List Breakpoint → List LineExpectation → HitTally → Bool → Option NodeId → MadeEvent → MachineState → Bool
+ends_move_early breakpoints expectations tally stops node told s =
+    (is_some (tally_after_event breakpoints told s tally).hit || is_move_ending_stop stops node told) || breaks_one_expectation expectations s

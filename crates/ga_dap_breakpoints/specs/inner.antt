@@ -1,2 +1,4 @@
 pub mod Cells
+pub mod Halting
+pub mod Stepping
 pub mod Words

@@ -11,6 +11,7 @@ ghost use Rattle.ga_dap_breakpoints.specs.declared.stepping.Granularity.TheVaria
 ghost use Rattle.ga_dap_breakpoints.specs.Stepping.{is_previous_return_entry_index, pending_call_after_step, move_after_event, move_after_events};
 ghost use Rattle.ga_dap_breakpoints.specs.inner.Words.{instruction_cell_after_event, reaches_move_end_by_cell, completes_move_by_cell};
 ghost use Rattle.ga_dap_breakpoints.specs.Going.{IsMoveResult, tally_after_events, step_plan};
+ghost use Rattle.ga_state_expectations.specs.Knowledge.{IsExpectationKnowledge};
 
 use crate::going::{MoveResult, move_result};
 use crate::halts::{HaltConditions, HaltMonitor, check_halt};
@@ -22,9 +23,18 @@ use ga_debug_info::DebugInfo;
 use ga_grid::{CHIP_NODE_COUNT, NodeId};
 use ga_lab::{Lab, MadeEvent};
 use ga_scheduler::{Schedule, StopCondition, is_step_of_node, run_watched};
+use ga_state_expectations::ExpectationKnowledge;
+
+/// A move of a node, and what ends it early.
+#[derive(Clone, Copy)]
+struct StepState<'a> {
+    notes: &'a DebugInfo,
+    halts: HaltConditions<'a>,
+    stepping: StepMove,
+}
 
 /// What watches a move.
-#[derive(Clone, Copy)]
+#[derive(Drop)]
 struct Steps<'a> {
     notes: &'a DebugInfo,
     halting: HaltMonitor<'a>,
@@ -173,13 +183,20 @@ fn completes_move_by_cell(
 
 impl<'a> StopCondition for Steps<'a> {
     ghost use Rattle.std.specs.Prelude.{Some, ◌||◌};
-    ghost use Rattle.ga_dap_breakpoints.specs.inner.Cells.{ends_move_early_by_cells, halt_monitor_after_event};
-    ghost use Rattle.ga_dap_breakpoints.specs.Stepping.{move_after_event};
-    ghost use Rattle.ga_dap_breakpoints.specs.inner.Words.{instruction_cell_after_event, completes_move_by_cell};
+    ghost use Rattle.ga_dap_breakpoints.specs.declared.moves.StepState.{StepState};
+    ghost use Rattle.ga_dap_breakpoints.specs.Breakpoints.{ends_move_early};
+    ghost use Rattle.ga_dap_breakpoints.specs.Stepping.{move_after_event, completes_move};
+    ghost use Rattle.ga_dap_breakpoints.specs.inner.Stepping.{step_state_after_event, RemembersSteps};
 
-    ghost ends = { λ w told s. ends_move_early_by_cells w.halting.halts.breakpoints.now w.halting.cells w.halting.halts.tally w.halting.halts.stops (Some w.stepping.node) told s || completes_move_by_cell w.notes.now w.stepping w.word told s };
+    type State = StepState<'a>;
 
-    ghost seen = { λ w told s. record w { halting = halt_monitor_after_event w.halting told s; stepping = move_after_event w.stepping told s; word = instruction_cell_after_event w.stepping.node w.word told s } };
+    ghost state = { λ w. record { notes = w.notes; halts = w.halting.halts; stepping = w.stepping } };
+
+    ghost ends = { λ w told s. ends_move_early w.halts.breakpoints.now w.halts.expectations.now w.halts.tally w.halts.stops (Some w.stepping.node) told s || completes_move w.notes.now w.stepping told s };
+
+    ghost seen = { λ w told s. step_state_after_event w told s };
+
+    ghost remembers = { λ w s. RemembersSteps w s };
 
     fn ends_run_after_event(&mut self, made: &MadeEvent, lab: &Lab) -> bool {
         let by = self.stepping;
@@ -205,36 +222,43 @@ fn word_begun(lab: &Lab, by: &StepMove) -> Option<u8>
 
 /// A slice of a move of a node, of at most `most` events. The node makes each event that it has; only while it has none do
 /// others make theirs, in the order of the schedule. The slice ends when the move is complete, a breakpoint is hit at any node,
-/// or a stop ends it. The same move and the returned schedule continue a slice that was cut. The time is linear in the number
-/// of events and of breakpoints; in addition in how long each node that arrives at the slot number of a breakpoint is within
-/// its word, and for a move by lines, once in a slice, in how long the node is within its word and in the length of its calls.
+/// a stop ends it, or an event breaks an expectation. The same move and the returned schedule continue a slice that was cut, with
+/// what is then known of the expectations. The time is linear in the number of events, in that of breakpoints and in that of
+/// expectations; in addition in how long each node that arrives at the slot number of a breakpoint is within its word, for a move
+/// by lines, once in a slice, in how long the node is within its word and in the length of its calls, and once for each
+/// expectation that an event violates in the number of events in the history.
 pub fn make_step_slice(
     lab: &mut Lab,
     schedule: Schedule,
     stepping: &mut StepMove,
     notes: &DebugInfo,
     halts: HaltConditions<'_>,
+    known: ExpectationKnowledge,
     most: u64,
 ) -> MoveResult
+    requires { IsExpectationKnowledge halts.expectations.now lab.old known }
+    ensures known { IsExpectationKnowledge halts.entry.expectations.now lab.new result.known }
     ensures state { scheduled_machine lab.new result.schedule ≡ run_after_events_with_precedence (Some stepping.old.node) (scheduled_machine lab.old schedule) result.events }
     ensures stepping { stepping.new ≡ move_after_events stepping.old (scheduled_machine lab.old schedule) result.events }
     ensures hits { result.tally ≡ tally_after_events (Some stepping.old.node) halts.entry.breakpoints.now halts.entry.tally (scheduled_machine lab.old schedule) result.events }
     ensures most { result.events ≤ most }
-    ensures end { IsMoveResult (step_plan notes.now halts.entry.breakpoints.now halts.entry.tally halts.entry.stops stepping.old (scheduled_machine lab.old schedule)) (scheduled_machine lab.old schedule) most result.events result.halt }
+    ensures end { IsMoveResult (step_plan notes.now halts.entry.breakpoints.now halts.entry.expectations.now halts.entry.tally halts.entry.stops stepping.old (scheduled_machine lab.old schedule)) (scheduled_machine lab.old schedule) most result.events result.halt }
 {
     let node = stepping.node;
     // It is called for its contract only: the history can be replayed.
     lab.chip();
+    let word = word_begun(lab, stepping);
     let mut watch = Steps {
         notes,
         halting: HaltMonitor {
             halts,
             cells: [None; CHIP_NODE_COUNT],
+            known,
         },
         stepping: *stepping,
-        word: word_begun(lab, stepping),
+        word,
     };
     let run = run_watched(lab, schedule, Some(node), most, &mut watch);
     *stepping = watch.stepping;
-    move_result(run, &watch.halting.halts, Some(node))
+    move_result(run, watch.halting, Some(node), lab)
 }

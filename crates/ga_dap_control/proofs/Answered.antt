@@ -5,6 +5,7 @@ use Rattle.std.specs.List.{list_all, list_any}
 use Rattle.std.proofs.lemmas.Bool.{cases_eq}
 use Rattle.ga_debug_info.specs.declared.notes.DebugInfo.{DebugInfo}
 use Rattle.ga_scheduler.specs.Running.{ScheduledMachine}
+use Rattle.ga_state_expectations.specs.declared.source.LineExpectation.{LineExpectation}
 use Rattle.ga_dap_breakpoints.specs.declared.breakpoint.Breakpoint.{Breakpoint}
 use Rattle.ga_grid.specs.declared.node_id.NodeId.{NodeId}
 use Rattle.ga_dap_breakpoints.specs.declared.going.HaltReason.{HaltReason}
@@ -85,18 +86,20 @@ changed_alike f g now same (suc n) =
     ap (λ (z : List Message). z ++ thread_change_messages (f n) (now n) n) (changed_alike f g now same n)
     ∙ ap (λ (z : Bool). thread_change_messages_below g now n ++ thread_change_messages z (now n) n) (same n)
 
-pub gone_by : (a b : List Breakpoint) (u v : HitTally) (s t : Bool) (r : ScheduledMachine) (most events : ℕ) (halt : HaltReason) → a ≡ b → u ≡ v → s ≡ t
-    → IsMoveResult (continue_plan a u s r) r most events halt → IsMoveResult (continue_plan b v t r) r most events halt
-gone_by a b u v s t r most events halt e g f p =
-    subst (λ (z : List Breakpoint). IsMoveResult (continue_plan z v t r) r most events halt) e
-    (subst (λ (z : HitTally). IsMoveResult (continue_plan a z t r) r most events halt) g (subst (λ (z : Bool). IsMoveResult (continue_plan a u z r) r most events halt) f p))
+pub gone_by : (a b : List Breakpoint) (x y : List LineExpectation) (u v : HitTally) (s t : Bool) (r : ScheduledMachine) (most events : ℕ) (halt : HaltReason) → a ≡ b → x ≡ y → u ≡ v → s ≡ t
+    → IsMoveResult (continue_plan a x u s r) r most events halt → IsMoveResult (continue_plan b y v t r) r most events halt
+gone_by a b x y u v s t r most events halt e d g f p =
+    subst (λ (z : List Breakpoint). IsMoveResult (continue_plan z y v t r) r most events halt) e
+    (subst (λ (z : List LineExpectation). IsMoveResult (continue_plan a z v t r) r most events halt) d
+    (subst (λ (z : HitTally). IsMoveResult (continue_plan a x z t r) r most events halt) g (subst (λ (z : Bool). IsMoveResult (continue_plan a x u z r) r most events halt) f p)))
 
-pub stepped_so : (notes : DebugInfo) (a b : List Breakpoint) (u v : HitTally) (s t : Bool) (by : StepMove) (r : ScheduledMachine) (most events : ℕ) (halt : HaltReason) → a ≡ b → u ≡ v → s ≡ t
-    → IsMoveResult (step_plan notes a u s by r) r most events halt → IsMoveResult (step_plan notes b v t by r) r most events halt
-stepped_so notes a b u v s t by r most events halt e g f p =
-    subst (λ (z : List Breakpoint). IsMoveResult (step_plan notes z v t by r) r most events halt) e
-    (subst (λ (z : HitTally). IsMoveResult (step_plan notes a z t by r) r most events halt) g
-    (subst (λ (z : Bool). IsMoveResult (step_plan notes a u z by r) r most events halt) f p))
+pub stepped_so : (notes : DebugInfo) (a b : List Breakpoint) (x y : List LineExpectation) (u v : HitTally) (s t : Bool) (by : StepMove) (r : ScheduledMachine) (most events : ℕ) (halt : HaltReason) → a ≡ b → x ≡ y → u ≡ v → s ≡ t
+    → IsMoveResult (step_plan notes a x u s by r) r most events halt → IsMoveResult (step_plan notes b y v t by r) r most events halt
+stepped_so notes a b x y u v s t by r most events halt e d g f p =
+    subst (λ (z : List Breakpoint). IsMoveResult (step_plan notes z y v t by r) r most events halt) e
+    (subst (λ (z : List LineExpectation). IsMoveResult (step_plan notes a z v t by r) r most events halt) d
+    (subst (λ (z : HitTally). IsMoveResult (step_plan notes a x z t by r) r most events halt) g
+    (subst (λ (z : Bool). IsMoveResult (step_plan notes a x u z by r) r most events halt) f p)))
 
 -- what was hit so often, by what counted it
 pub hits_so : (first : Option NodeId) (a b : List Breakpoint) (u v : HitTally) (r : ScheduledMachine) (events : ℕ) (tally : HitTally) → a ≡ b → u ≡ v

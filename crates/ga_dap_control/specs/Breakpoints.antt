@@ -7,7 +7,6 @@ use Rattle.serde_json.specs.View.{view, items_of}
 use Rattle.serde_json.specs.Find.{get, as_str}
 use Rattle.ga_text.specs.Lines.{Text}
 use Rattle.ga_dap_views.specs.Json.{json_object_of_member}
-use Rattle.ga_dap_breakpoints.specs.declared.breakpoint.Breakpoint.{Breakpoint}
 use Rattle.ga_dap_protocol.specs.Messages.{member_as_text}
 use Rattle.ga_dap_protocol.specs.declared.request.ClientRequest.{ClientRequest}
 use Rattle.ga_dap_queries.specs.declared.debuggee.Debuggee.{Debuggee}
@@ -78,16 +77,22 @@ SetsLineBreakpoints p set request message new = SetsLineBreakpointsIfOwnFile (is
 abbrev pub is_json_string_equal_to : Text → Data → Bool
 is_json_string_equal_to name d = equals_optional_text name (as_str d)
 
--- a filter: a node that stops, or that can never go on, ends a run
+-- a filter: a node that stops, one that can never go on, or an event that breaks an expectation of the source ends a run
 abbrev pub is_exception_filter_name : Data → Bool
-is_exception_filter_name d = is_json_string_equal_to (codes "stop") d || is_json_string_equal_to (codes "stuck") d
+is_exception_filter_name d = (is_json_string_equal_to (codes "stop") d || is_json_string_equal_to (codes "stuck") d) || is_json_string_equal_to (codes "broken") d
 
 -- the requested filters are set, if each is one
 abbrev pub SetsExceptionFiltersIfKnown : Bool → List Data → Configuration → ClientRequest → Message → Configuration → Type 0
 SetsExceptionFiltersIfKnown true names set request message new =
-    (message ≡ bare_success_response request) × (new ≡ record set { stops = list_any (is_json_string_equal_to (codes "stop")) names; stuck = list_any (is_json_string_equal_to (codes "stuck")) names })
+    (message ≡ bare_success_response request)
+    × (new
+    ≡ record set {
+      stops = list_any (is_json_string_equal_to (codes "stop")) names;
+      stuck = list_any (is_json_string_equal_to (codes "stuck")) names;
+      broken = list_any (is_json_string_equal_to (codes "broken")) names;
+    })
 SetsExceptionFiltersIfKnown false names set request message new =
-    (message ≡ refused_response request (codes "setExceptionBreakpoints: the filters are stop and stuck")) × (new ≡ set)
+    (message ≡ refused_response request (codes "setExceptionBreakpoints: the filters are stop, stuck and broken")) × (new ≡ set)
 
 abbrev pub SetsExceptionFilters : Configuration → ClientRequest → Message → Configuration → Type 0
 SetsExceptionFilters set request message new =

@@ -1,4 +1,5 @@
 pub mod Stopping
+pub mod Watched
 pub mod Back
 pub mod Placing
 pub mod Breakpoints

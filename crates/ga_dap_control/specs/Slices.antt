@@ -25,6 +25,9 @@ use Rattle.ga_dap_breakpoints.specs.Going.{IsMoveResult, tally_after_events, con
 use Rattle.ga_dap_breakpoints.specs.Stepping.{move_after_events}
 use Rattle.ga_dap_breakpoints.specs.declared.hits.HitTally.{HitTally}
 use Rattle.ga_dap_breakpoints.specs.Reversing.{hit_tally_of_history}
+use Rattle.ga_lab.specs.declared.fault.LabFault.TheVariants as fault
+use Rattle.ga_state_expectations.specs.declared.source.LineExpectation.{LineExpectation}
+use Rattle.ga_dap_control.specs.Watched.{AreWatchedExpectations}
 use Rattle.ga_dap_control.specs.declared.execution.Execution.{Execution}
 use Rattle.ga_dap_control.specs.declared.execution.RunGoal.{RunGoal}
 use Rattle.ga_dap_control.specs.declared.execution.RunGoal.TheVariants.{Continue, Step}
@@ -46,25 +49,25 @@ hit_tally_before_slice s set None = hit_tally_of_history s set.points.points.ite
 hit_tally_before_slice s set (Some tally) = tally
 
 -- a slice of the events of `continue`
-abbrev pub ContinuesForSlice : Debuggee → Configuration → Execution → Debuggee → Execution → MoveResult → Type 0
-ContinuesForSlice p set r new next went =
+abbrev pub ContinuesForSlice : List LineExpectation → Debuggee → Configuration → Execution → Debuggee → Execution → MoveResult → Type 0
+ContinuesForSlice expectations p set r new next went =
     (scheduled_machine new.lab went.schedule ≡ run_after_events (scheduled_machine p.lab r.schedule) went.events) × (went.events ≤ slice_event_limit)
     × (went.tally ≡ tally_after_events None set.points.points.items (hit_tally_before_slice p.lab set r.tally) (scheduled_machine p.lab r.schedule) went.events)
-    × IsMoveResult (continue_plan set.points.points.items (hit_tally_before_slice p.lab set r.tally) set.stops (scheduled_machine p.lab r.schedule)) (scheduled_machine p.lab r.schedule) slice_event_limit went.events went.halt
+    × IsMoveResult (continue_plan set.points.points.items expectations (hit_tally_before_slice p.lab set r.tally) set.stops (scheduled_machine p.lab r.schedule)) (scheduled_machine p.lab r.schedule) slice_event_limit went.events went.halt
     × (new ≡ record p { lab = new.lab }) × (next ≡ record r { schedule = went.schedule; tally = Some went.tally })
 
 -- a slice of the events of a step of one node
-abbrev pub StepsForSlice : StepMove → Debuggee → Configuration → Execution → Debuggee → Execution → MoveResult → Type 0
-StepsForSlice by p set r new next went =
+abbrev pub StepsForSlice : StepMove → List LineExpectation → Debuggee → Configuration → Execution → Debuggee → Execution → MoveResult → Type 0
+StepsForSlice by expectations p set r new next went =
     (scheduled_machine new.lab went.schedule ≡ run_after_events_with_precedence (Some by.node) (scheduled_machine p.lab r.schedule) went.events) × (went.events ≤ slice_event_limit)
     × (went.tally ≡ tally_after_events (Some by.node) set.points.points.items (hit_tally_before_slice p.lab set r.tally) (scheduled_machine p.lab r.schedule) went.events)
-    × IsMoveResult (step_plan (program_debug_info p) set.points.points.items (hit_tally_before_slice p.lab set r.tally) set.stops by (scheduled_machine p.lab r.schedule)) (scheduled_machine p.lab r.schedule) slice_event_limit went.events went.halt
+    × IsMoveResult (step_plan (program_debug_info p) set.points.points.items expectations (hit_tally_before_slice p.lab set r.tally) set.stops by (scheduled_machine p.lab r.schedule)) (scheduled_machine p.lab r.schedule) slice_event_limit went.events went.halt
     × (new ≡ record p { lab = new.lab })
     × (next ≡ record r { schedule = went.schedule; tally = Some went.tally; goal = Some (Step (move_after_events by (scheduled_machine p.lab r.schedule) went.events)) })
 
-abbrev pub AdvancesRunByGoal : RunGoal → Debuggee → Configuration → Execution → Debuggee → Execution → MoveResult → Type 0
-AdvancesRunByGoal Continue p set r new next went = ContinuesForSlice p set r new next went
-AdvancesRunByGoal (Step by) p set r new next went = StepsForSlice by p set r new next went
+abbrev pub AdvancesRunByGoal : RunGoal → List LineExpectation → Debuggee → Configuration → Execution → Debuggee → Execution → MoveResult → Type 0
+AdvancesRunByGoal Continue expectations p set r new next went = ContinuesForSlice expectations p set r new next went
+AdvancesRunByGoal (Step by) expectations p set r new next went = StepsForSlice by expectations p set r new next went
 
 -- ---- why the run ends after them
 
@@ -98,6 +101,7 @@ deadlock_or_other_stop_reason asked stuck other = other
 abbrev pub slice_stop_reason : Configuration → RunGoal → Option NodeId → HaltReason → Option StopReason
 slice_stop_reason set goal stuck (halt.HitBreakpoint told which) = Some (stop_reason_of_breakpoint_at_index set told which)
 slice_stop_reason set goal stuck (halt.NodeStopped told) = Some (stop.Stopped (event_node told))
+slice_stop_reason set goal stuck (halt.BrokeExpectation told line) = Some (stop.BrokeExpectation (event_node told) line)
 slice_stop_reason set goal stuck (halt.CompletedMove told) = deadlock_or_other_stop_reason set.stuck stuck (Some (stop_reason_of_move_end goal told))
 slice_stop_reason set goal stuck (halt.Refused why) = Some (stop.Refused why)
 slice_stop_reason set goal stuck halt.SliceEnded = deadlock_or_other_stop_reason set.stuck stuck None
@@ -143,13 +147,21 @@ abbrev pub execution_after_stop : Execution → Option StopReason → Execution
 execution_after_stop r None = r
 execution_after_stop r (Some why) = record r { goal = None }
 
--- the events of a slice, before which these nodes are stuck
-abbrev pub MakesSliceGivenDeadlocked : RunGoal → List Bool → Debuggee → Configuration → Execution → Debuggee → Execution → Option StopReason → Type 0
-MakesSliceGivenDeadlocked goal before p set r new next result =
-    (went : MoveResult) × (between : Execution) × (now : List Bool) × (stuck : Option NodeId) × AdvancesRunByGoal goal p set r new between went
+-- the events of a slice, before which these nodes are stuck, and with which these expectations are watched
+abbrev pub MakesSliceExpecting : RunGoal → List Bool → List LineExpectation → Debuggee → Configuration → Execution → Debuggee → Execution → Option StopReason → Type 0
+MakesSliceExpecting goal before expectations p set r new next result =
+    (went : MoveResult) × (between : Execution) × (now : List Bool) × (stuck : Option NodeId) × AdvancesRunByGoal goal expectations p set r new between went
     × IsGreatestDeadlock (chip_of_machine new.lab) (is_node_flagged now) × IsFirstNewlyDeadlocked (is_node_flagged before) (is_node_flagged now) new stuck
     × (result ≡ slice_stop_reason set goal stuck went.halt)
     × (next ≡ execution_after_stop (record between { reported = reported_deadlocks set.stuck result before now }) result)
+
+-- no memory was left for the expectations of the source: no event is made
+abbrev pub LacksMemoryForExpectations : Debuggee → Execution → Debuggee → Execution → Option StopReason → Type 0
+LacksMemoryForExpectations p r new next result = (new ≡ p) × (next ≡ record r { goal = None }) × (result ≡ Some (stop.Refused fault.Memory))
+
+abbrev pub MakesSliceGivenDeadlocked : RunGoal → List Bool → Debuggee → Configuration → Execution → Debuggee → Execution → Option StopReason → Type 0
+MakesSliceGivenDeadlocked goal before p set r new next result =
+    ((expectations : List LineExpectation) × AreWatchedExpectations p set expectations × MakesSliceExpecting goal before expectations p set r new next result) ⊎ LacksMemoryForExpectations p r new next result
 
 -- a slice that begins with an unreported deadlocked node makes no event: it reports the node
 abbrev pub MakesEventsUnlessDeadlocked : Option NodeId → RunGoal → List Bool → Debuggee → Configuration → Execution → Debuggee → Execution → Option StopReason → Type 0

@@ -1,5 +1,5 @@
 -- Where a run ended (Debug Adapter Protocol, "StoppedEvent").
-use Rattle.std.specs.Prelude.{◌≡◌, ℕ, Bool, List, [], ◌++◌, map, filter, codes}
+use Rattle.std.specs.Prelude.{◌≡◌, ℕ, Bool, List, [], ◌++◌, map, filter, codes, decimal}
 use Rattle.ga_text.specs.Lines.{Text}
 use Rattle.ga_event.specs.declared.made.MadeEvent.{MadeEvent}
 use Rattle.ga_lab.specs.Machine.{MachineState, chip_of_machine}
@@ -42,6 +42,13 @@ hit_breakpoint_ids told s placed = map (λ (one : PlacedBreakpoint). one.id) (fi
 abbrev pub exception_stop_message : Debuggee → ℕ → Text → Message
 exception_stop_message p n behind = stopped_message (codes "exception") (codes "node " ++ node_name_and_activity_text (chip_of_machine p.lab) n ++ behind) n
 
+-- what a node did broke the expectation of a line
+abbrev pub broken_expectation_text : ℕ → Text
+broken_expectation_text line = codes "the expectation of line " ++ decimal line ++ codes " is broken"
+
+abbrev pub broken_expectation_message : ℕ → ℕ → Message
+broken_expectation_message n line = stopped_message (codes "exception") (broken_expectation_text line) n
+
 -- `stopped_message` if a run ended for this reason; if it ended at no node, the message names the first node that has something to show
 abbrev pub stop_reason_message : Debuggee → List PlacedBreakpoint → ℕ → StopReason → Message
 stop_reason_message p placed first (stop.StepCompleted node) = stopped_message (codes "step") (codes "step") node.number
@@ -49,6 +56,7 @@ stop_reason_message p placed first (stop.Breakpoint node told) = breakpoint_hit_
 stop_reason_message p placed first (stop.WatchedCellWritten node told) = breakpoint_hit_message (codes "data breakpoint") (codes "a watched cell was written") node.number (hit_breakpoint_ids told p.lab placed)
 stop_reason_message p placed first (stop.Stopped node) = exception_stop_message p node.number []
 stop_reason_message p placed first (stop.Stuck node) = exception_stop_message p node.number (codes ", and can never go on")
+stop_reason_message p placed first (stop.BrokeExpectation node line) = broken_expectation_message node.number line
 stop_reason_message p placed first stop.Quiet = stopped_message (codes "pause") (codes "quiet: no node has an event") first
 stop_reason_message p placed first (stop.Refused why) = stopped_message (codes "pause") (lab_fault_text why) first
 

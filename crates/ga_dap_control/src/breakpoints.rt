@@ -188,7 +188,9 @@ fn is_json_string_equal_to(item: &Value, name: &str) -> bool
 fn is_exception_filter_name(item: &Value) -> bool
     ensures { result ≡ is_exception_filter_name (view item.now) }
 {
-    is_json_string_equal_to(item, "stop") || is_json_string_equal_to(item, "stuck")
+    is_json_string_equal_to(item, "stop")
+        || is_json_string_equal_to(item, "stuck")
+        || is_json_string_equal_to(item, "broken")
 }
 
 fn each_is_filter(items: &[Value]) -> bool
@@ -230,14 +232,16 @@ fn set_filters_if(
     if known {
         let stops = has_filter(filters, "stop");
         let stuck = has_filter(filters, "stuck");
+        let broken = has_filter(filters, "broken");
         out.acknowledge(request)?;
         settings.stops = stops;
         settings.stuck = stuck;
+        settings.broken = broken;
         Ok(())
     } else {
         out.refuse(
             request,
-            "setExceptionBreakpoints: the filters are stop and stuck",
+            "setExceptionBreakpoints: the filters are stop, stuck and broken",
         )
     }
 }

@@ -7,6 +7,7 @@ ghost use Rattle.ga_dap_control.specs.Stopping.{is_placed_breakpoint_hit};
 
 use ga_dap_breakpoints::{Breakpoint, HaltConditions, HitTally, is_event_hit_meeting_condition};
 use ga_lab::{Lab, MadeEvent};
+use ga_state_expectations::LineExpectation;
 use std::alloc::{AllocError, Global};
 
 /// Which request set a breakpoint.
@@ -49,6 +50,8 @@ pub struct Configuration {
     pub stops: bool,
     /// Filter `stuck`: a node that can never go on ends a run.
     pub stuck: bool,
+    /// Filter `broken`: an event that breaks an expectation of the source ends a run.
+    pub broken: bool,
 }
 
 fn breakpoint_kind_number(family: BreakpointKind) -> u8
@@ -190,22 +193,30 @@ impl Configuration {
         ensures next { result.points.next_id ≡ 1 }
         ensures stops { result.stops ≡ true }
         ensures stuck { result.stuck ≡ true }
+        ensures broken { result.broken ≡ true }
     {
         Configuration {
             points: BreakpointSet::none(alloc),
             stops: true,
             stuck: true,
+            broken: true,
         }
     }
 
-    /// What ends a run early, where each breakpoint was hit so often.
-    pub fn halt_conditions_with_tally(&self, tally: HitTally) -> HaltConditions<'_>
+    /// What ends a run early, where these expectations are watched and each breakpoint was hit so often.
+    pub fn halt_conditions_with_tally<'b>(
+        &'b self,
+        expectations: &'b [LineExpectation],
+        tally: HitTally,
+    ) -> HaltConditions<'b>
+        ensures expectations { result.expectations.now ≡ expectations.now }
         ensures points { result.breakpoints.now ≡ self.now.points.points.items }
         ensures stops { result.stops ≡ self.now.stops }
         ensures hits { result.tally ≡ tally }
     {
         HaltConditions {
             breakpoints: self.points.points.as_slice(),
+            expectations,
             stops: self.stops,
             tally,
         }

@@ -5,19 +5,24 @@ ghost use Rattle.ga_scheduler.specs.Running.{scheduled_machine};
 ghost use Rattle.ga_scheduler.specs.Watched.{run_after_events_with_precedence};
 ghost use Rattle.ga_dap_breakpoints.specs.Going.{IsMoveResult, tally_after_events, step_plan};
 ghost use Rattle.ga_dap_breakpoints.specs.Stepping.{move_after_events};
-ghost use Rattle.ga_dap_control.specs.Slices.{slice_event_limit, hit_tally_before_slice, ContinuesForSlice, StepsForSlice, AdvancesRunByGoal, MakesSliceIfRunning, MakesEventSlice, MakesSliceGivenDeadlocked, execution_after_stop};
+ghost use Rattle.ga_state_expectations.specs.Knowledge.{IsExpectationKnowledge};
+ghost use Rattle.ga_dap_control.specs.Slices.{slice_event_limit, hit_tally_before_slice, ContinuesForSlice, StepsForSlice, AdvancesRunByGoal, MakesSliceIfRunning, MakesEventSlice, MakesSliceExpecting, MakesSliceGivenDeadlocked, execution_after_stop};
+ghost use Rattle.ga_dap_control.specs.Watched.{AreExpectationsKnown, AreOptionalExpectationsKnown, AreWatchedExpectations};
 
 use crate::configuration::Configuration;
 use crate::deadlocks::{keep_reported, newly_stuck, stuck_of, unreported};
 use crate::stop_reason::{StopReason, slice_stop_reason};
+use crate::watched::{WatchedExpectations, expectations_before_slice};
 use ga_dap_breakpoints::{
     HitTally, MoveResult, StepMove, count_hits_in_history, make_continue_slice, make_step_slice,
 };
 use ga_dap_queries::Debuggee;
 use ga_debug_info::DebugInfo;
 use ga_grid::NodeId;
-use ga_lab::Lab;
+use ga_lab::{Lab, LabFault};
 use ga_scheduler::Schedule;
+use ga_state_expectations::{ExpectationKnowledge, LineExpectation};
+use std::alloc::{AllocError, Global};
 
 /// How many events are made before the client is listened to again.
 pub const MAX_SLICE_EVENTS: u64 = 4096;
@@ -63,15 +68,20 @@ fn go_on_slice(
     program: &mut Debuggee,
     settings: &Configuration,
     execution: &mut Execution,
+    expectations: &[LineExpectation],
+    known: ExpectationKnowledge,
 ) -> MoveResult
-    ensures { ContinuesForSlice program.old settings.now execution.old program.new execution.new result }
+    requires { IsExpectationKnowledge expectations.now program.old.lab known }
+    ensures slice { ContinuesForSlice expectations.now program.old settings.now execution.old program.new execution.new result }
+    ensures known { IsExpectationKnowledge expectations.now program.new.lab result.known }
 {
     let tally = hit_tally_before_slice(&program.lab, settings, execution.tally);
-    let halts = settings.halt_conditions_with_tally(tally);
+    let halts = settings.halt_conditions_with_tally(expectations, tally);
     let went = make_continue_slice(
         &mut program.lab,
         execution.schedule,
         halts,
+        known,
         MAX_SLICE_EVENTS,
     );
     execution.schedule = went.schedule;
@@ -86,22 +96,27 @@ fn step_by(
     settings: &Configuration,
     execution: &mut Execution,
     stepping: StepMove,
+    expectations: &[LineExpectation],
+    known: ExpectationKnowledge,
 ) -> MoveResult
+    requires { IsExpectationKnowledge expectations.now lab.old known }
+    ensures known { IsExpectationKnowledge expectations.now lab.new result.known }
     ensures state { scheduled_machine lab.new result.schedule ≡ run_after_events_with_precedence (Some stepping.node) (scheduled_machine lab.old execution.old.schedule) result.events }
     ensures most { result.events ≤ slice_event_limit }
     ensures hits { result.tally ≡ tally_after_events (Some stepping.node) settings.now.points.points.items (hit_tally_before_slice lab.old settings.now execution.old.tally) (scheduled_machine lab.old execution.old.schedule) result.events }
-    ensures end { IsMoveResult (step_plan notes.now settings.now.points.points.items (hit_tally_before_slice lab.old settings.now execution.old.tally) settings.now.stops stepping (scheduled_machine lab.old execution.old.schedule)) (scheduled_machine lab.old execution.old.schedule) slice_event_limit result.events result.halt }
+    ensures end { IsMoveResult (step_plan notes.now settings.now.points.points.items expectations.now (hit_tally_before_slice lab.old settings.now execution.old.tally) settings.now.stops stepping (scheduled_machine lab.old execution.old.schedule)) (scheduled_machine lab.old execution.old.schedule) slice_event_limit result.events result.halt }
     ensures next { execution.new ≡ record execution.old { schedule = result.schedule; tally = Some result.tally; goal = Some (RunGoal.Step (move_after_events stepping (scheduled_machine lab.old execution.old.schedule) result.events)) } }
 {
     let mut by = stepping;
     let tally = hit_tally_before_slice(lab, settings, execution.tally);
-    let halts = settings.halt_conditions_with_tally(tally);
+    let halts = settings.halt_conditions_with_tally(expectations, tally);
     let went = make_step_slice(
         lab,
         execution.schedule,
         &mut by,
         notes,
         halts,
+        known,
         MAX_SLICE_EVENTS,
     );
     execution.schedule = went.schedule;
@@ -116,17 +131,32 @@ fn step_slice(
     settings: &Configuration,
     execution: &mut Execution,
     stepping: StepMove,
+    expectations: &[LineExpectation],
+    known: ExpectationKnowledge,
 ) -> MoveResult
-    ensures { StepsForSlice stepping program.old settings.now execution.old program.new execution.new result }
+    requires { IsExpectationKnowledge expectations.now program.old.lab known }
+    ensures slice { StepsForSlice stepping expectations.now program.old settings.now execution.old program.new execution.new result }
+    ensures known { IsExpectationKnowledge expectations.now program.new.lab result.known }
 {
+    let lab = &mut program.lab;
     match &program.source {
-        Some(notes) => step_by(&mut program.lab, notes, settings, execution, stepping),
+        Some(notes) => step_by(
+            lab,
+            notes,
+            settings,
+            execution,
+            stepping,
+            expectations,
+            known,
+        ),
         None => step_by(
-            &mut program.lab,
+            lab,
             &program.empty_debug_info,
             settings,
             execution,
             stepping,
+            expectations,
+            known,
         ),
     }
 }
@@ -137,55 +167,55 @@ fn advance(
     settings: &Configuration,
     execution: &mut Execution,
     goal: RunGoal,
+    expectations: &[LineExpectation],
+    known: ExpectationKnowledge,
 ) -> MoveResult
-    ensures { AdvancesRunByGoal goal program.old settings.now execution.old program.new execution.new result }
+    requires { IsExpectationKnowledge expectations.now program.old.lab known }
+    ensures slice { AdvancesRunByGoal goal expectations.now program.old settings.now execution.old program.new execution.new result }
+    ensures known { IsExpectationKnowledge expectations.now program.new.lab result.known }
 {
     match goal {
-        RunGoal::Continue => go_on_slice(program, settings, execution),
-        RunGoal::Step(stepping) => step_slice(program, settings, execution, stepping),
+        RunGoal::Continue => go_on_slice(program, settings, execution, expectations, known),
+        RunGoal::Step(stepping) => {
+            step_slice(program, settings, execution, stepping, expectations, known)
+        }
     }
 }
 
-/// Makes a slice of the events of the run under way, and says why it ended, where it did.
+/// Makes a slice of the events of the run under way, and returns why it ended, where it did. `watched` is what the slice before left, or none: then it takes
+/// memory for the expectations of the source, if the filter is on.
 pub fn make_event_slice(
+    alloc: Global,
     program: &mut Debuggee,
     settings: &Configuration,
     execution: &mut Execution,
+    watched: &mut Option<WatchedExpectations>,
 ) -> Option<StopReason>
-    ensures { MakesEventSlice program.old settings.now execution.old program.new execution.new result }
+    requires { AreOptionalExpectationsKnown program.old settings.now watched.old }
+    ensures slice { MakesEventSlice program.old settings.now execution.old program.new execution.new result }
+    ensures known { AreOptionalExpectationsKnown program.new settings.now watched.new }
 {
-    let goal = execution.goal;
-    make_slice_for(program, settings, execution, goal)
+    let goal = execution.goal?;
+    make_slice_of(alloc, program, settings, execution, goal, watched)
 }
 
-/// Makes a slice of the events of a run that is for this, where one is under way, and says why it ended, where it did.
-fn make_slice_for(
-    program: &mut Debuggee,
-    settings: &Configuration,
-    execution: &mut Execution,
-    goal: Option<RunGoal>,
-) -> Option<StopReason>
-    ensures { MakesSliceIfRunning goal program.old settings.now execution.old program.new execution.new result }
-{
-    match goal {
-        Some(goal) => make_slice_of(program, settings, execution, goal),
-        None => None,
-    }
-}
-
-/// Makes a slice of the events of a run that is under way for this, and says why it ended, where it did.
+/// Makes a slice of the events of a run that is under way for this, and returns why it ended, where it did.
 fn make_slice_of(
+    alloc: Global,
     program: &mut Debuggee,
     settings: &Configuration,
     execution: &mut Execution,
     goal: RunGoal,
+    watched: &mut Option<WatchedExpectations>,
 ) -> Option<StopReason>
-    ensures { MakesSliceIfRunning (Some goal) program.old settings.now execution.old program.new execution.new result }
+    requires { AreOptionalExpectationsKnown program.old settings.now watched.old }
+    ensures slice { MakesSliceIfRunning (Some goal) program.old settings.now execution.old program.new execution.new result }
+    ensures known { AreOptionalExpectationsKnown program.new settings.now watched.new }
 {
     let before = stuck_of(program);
     match unreported(program, settings, execution, &before) {
         Some(node) => Some(report(execution, node, &before)),
-        None => make_events(program, settings, execution, goal, &before),
+        None => make_events(alloc, program, settings, execution, goal, &before, watched),
     }
 }
 
@@ -199,23 +229,77 @@ fn report(execution: &mut Execution, node: NodeId, stuck: &[bool; 144]) -> StopR
     StopReason::Stuck(node)
 }
 
-/// Makes the events of a slice, before which these nodes are stuck, and says why the run ended, where it did.
+/// Ends a run before it makes an event, since no memory was left for the expectations of the source.
+fn refuse_slice(execution: &mut Execution) -> StopReason
+    ensures reason { result ≡ StopReason.Refused LabFault.Memory }
+    ensures next { execution.new ≡ record execution.old { goal = None } }
+{
+    execution.goal = None;
+    StopReason::Refused(LabFault::Memory)
+}
+
+/// Makes the events of a slice, before which these nodes are stuck, and returns why the run ended, where it did.
 fn make_events(
+    alloc: Global,
     program: &mut Debuggee,
     settings: &Configuration,
     execution: &mut Execution,
     goal: RunGoal,
     before: &[bool; 144],
+    watched: &mut Option<WatchedExpectations>,
 ) -> Option<StopReason>
-    ensures { MakesSliceGivenDeadlocked goal before.now program.old settings.now execution.old program.new execution.new result }
+    requires { AreOptionalExpectationsKnown program.old settings.now watched.old }
+    ensures slice { MakesSliceGivenDeadlocked goal before.now program.old settings.now execution.old program.new execution.new result }
+    ensures known { AreOptionalExpectationsKnown program.new settings.now watched.new }
 {
-    let went = advance(program, settings, execution, goal);
+    match expectations_before_slice(alloc, program, settings, watched.take()) {
+        Ok(expected) => {
+            let WatchedExpectations {
+                expectations,
+                known,
+            } = expected;
+            let (stop, known) = make_events_expecting(
+                program,
+                settings,
+                execution,
+                goal,
+                before,
+                expectations.as_slice(),
+                known,
+            );
+            *watched = Some(WatchedExpectations {
+                expectations,
+                known,
+            });
+            stop
+        }
+        Err(_) => Some(refuse_slice(execution)),
+    }
+}
+
+/// Makes the events of a slice, before which these nodes are stuck, and with which these expectations are watched. Returns why the run ended, where it did,
+/// and what is then known of the expectations.
+fn make_events_expecting(
+    program: &mut Debuggee,
+    settings: &Configuration,
+    execution: &mut Execution,
+    goal: RunGoal,
+    before: &[bool; 144],
+    expectations: &[LineExpectation],
+    known: ExpectationKnowledge,
+) -> (Option<StopReason>, ExpectationKnowledge)
+    requires { IsExpectationKnowledge expectations.now program.old.lab known }
+    ensures slice { MakesSliceExpecting goal before.now expectations.now program.old settings.now execution.old program.new execution.new result.0 }
+    ensures program { program.new ≡ record program.old { lab = program.new.lab } }
+    ensures known { IsExpectationKnowledge expectations.now program.new.lab result.1 }
+{
+    let went = advance(program, settings, execution, goal, expectations, known);
     let now = stuck_of(program);
     let stuck = newly_stuck(program, before, &now);
     let stop = slice_stop_reason(settings, goal, stuck, went.halt);
     keep_reported(execution, settings.stuck, &stop, before, &now);
     end_for(execution, stop);
-    stop
+    (stop, went.known)
 }
 
 /// Ends a run, where there is a reason to.

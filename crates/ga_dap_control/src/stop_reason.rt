@@ -22,6 +22,8 @@ pub enum StopReason {
     Stopped(NodeId),
     /// The node can never go on.
     Stuck(NodeId),
+    /// What this node did broke the expectation of this line.
+    BrokeExpectation { node: NodeId, line: u32 },
     /// No node has an event.
     Quiet,
     /// The lab refused the next event.
@@ -108,6 +110,10 @@ pub(crate) fn slice_stop_reason(
             settings, made, which,
         )),
         HaltReason::NodeStopped(made) => Some(StopReason::Stopped(node_of(made))),
+        HaltReason::BrokeExpectation { made, line } => Some(StopReason::BrokeExpectation {
+            node: node_of(made),
+            line,
+        }),
         HaltReason::CompletedMove(made) => deadlock_or_other_stop_reason(
             settings.stuck,
             stuck,
@@ -134,6 +140,7 @@ pub(crate) fn is_deadlock_stop(stop: &Option<StopReason>) -> bool
         Some(StopReason::Breakpoint { .. }) => false,
         Some(StopReason::WatchedCellWritten { .. }) => false,
         Some(StopReason::Stopped(_)) => false,
+        Some(StopReason::BrokeExpectation { .. }) => false,
         Some(StopReason::Quiet) => false,
         Some(StopReason::Refused(_)) => false,
     }

@@ -5,7 +5,7 @@ ghost use Rattle.serde_json.specs.View.{view};
 ghost use Rattle.ga_text.specs.Lines.{Text};
 ghost use Rattle.ga_dap_protocol.specs.Messages.{member_as_text};
 ghost use Rattle.ga_dap_queries.specs.Sending.{SendsMessage, Message};
-ghost use Rattle.ga_dap_control.specs.Stopping.{breakpoint_hit_message, hit_breakpoint_ids, lab_fault_text, exception_stop_message, stop_reason_message, IsStopReasonMessage};
+ghost use Rattle.ga_dap_control.specs.Stopping.{breakpoint_hit_message, broken_expectation_text, broken_expectation_message, hit_breakpoint_ids, lab_fault_text, exception_stop_message, stop_reason_message, IsStopReasonMessage};
 
 use crate::configuration::Configuration;
 use crate::configuring::first_of;
@@ -56,6 +56,22 @@ fn tell_fault(
 {
     let info = make_exception_info_body(alloc, &program.lab, false, node)?;
     let text = text_behind(alloc, &info, behind)?;
+    emit_stopped_event(alloc, "exception", text.as_str(), node, out)
+}
+
+/// What is reported of the broken expectation of a line.
+fn broken_expectation_text(alloc: Global, line: u32) -> Result<String, AllocError>
+    ensures { IfOk result (λ text. string_bytes text ≡ broken_expectation_text line) }
+{
+    format!(in alloc; "the expectation of line {line} is broken")
+}
+
+/// Reports that what a node did broke the expectation of a line.
+fn tell_broken(alloc: Global, node: NodeId, line: u32, out: &mut Outbox) -> Result<(), AllocError>
+    ensures sent { OnOk result (SendsMessage out.old (broken_expectation_message node.number line) out.new) }
+    ensures err { OnErr result (out.new ≡ out.old) }
+{
+    let text = broken_expectation_text(alloc, line)?;
     emit_stopped_event(alloc, "exception", text.as_str(), node, out)
 }
 
@@ -119,6 +135,7 @@ fn tell_stop_at(
         }
         StopReason::Stopped(node) => tell_fault(alloc, program, node, "", out),
         StopReason::Stuck(node) => tell_fault(alloc, program, node, ", and can never go on", out),
+        StopReason::BrokeExpectation { node, line } => tell_broken(alloc, node, line, out),
         StopReason::Quiet => emit_stopped_event(
             alloc,
             "pause",

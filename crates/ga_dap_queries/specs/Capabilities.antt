@@ -26,7 +26,9 @@ exception_filter_object filter label =
     object (member (codes "default") (boolean true) (member (codes "filter") (string filter) (member (codes "label") (string label) no_members)))
 
 abbrev pub exception_breakpoint_filters : Data
-exception_breakpoint_filters = array (item (exception_filter_object (codes "stop") (codes "A node stops")) (item (exception_filter_object (codes "stuck") (codes "A node can never go on")) no_items))
+exception_breakpoint_filters =
+    array (item (exception_filter_object (codes "stop") (codes "A node stops")) (item (exception_filter_object (codes "stuck") (codes "A node can never go on"))
+    (item (exception_filter_object (codes "broken") (codes "An expectation is broken")) no_items)))
 
 -- something that can be asked for
 abbrev pub members_with_capability : Text → Members → Members

@@ -23,7 +23,8 @@ fn exception_breakpoint_filters(alloc: Global) -> Result<Value, AllocError>
 {
     let stop = exception_filter_object(alloc, "stop", "A node stops")?;
     let stuck = exception_filter_object(alloc, "stuck", "A node can never go on")?;
-    json!(in alloc; [stop, stuck])
+    let broken = exception_filter_object(alloc, "broken", "An expectation is broken")?;
+    json!(in alloc; [stop, stuck, broken])
 }
 
 /// What this debugger can do (Debug Adapter Protocol, "Capabilities"), beside its filters.

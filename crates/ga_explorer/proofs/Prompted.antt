@@ -21,7 +21,7 @@ use Rattle.ga_explorer.specs.declared.strict.StrictExplorer.{StrictExplorer}
 use Rattle.ga_explorer.proofs.Serving.{serves_seen}
 use Rattle.ga_explorer.proofs.StrictLemmas.{GoesOn, EndsStrictly}
 
--- how a session that may prompt answers a line after which it goes on, and one at which it ends
+-- how a session that may prompt answers a line after which it continues, and one at which it ends
 abbrev pub AnswersPrompted : PromptedExplorer → List ℕ → List ℕ → PromptedExplorer → Type 0
 AnswersPrompted p line written new =
     PromptingSessionGoesOn p.is_prompted p.explorer.is_strict p.explorer.explorer line written new.is_prompted new.explorer.is_strict new.explorer.explorer

@@ -94,7 +94,7 @@ plain_command e new asked answer (Err failed) (inr h) = inl (λ line short spell
 
 -- ---- the machine of a session that may be strict
 
--- how it answers a line after which it goes on, and one at which it ends
+-- how it answers a line after which it continues, and one at which it ends
 abbrev pub GoesOn : StrictExplorer → List ℕ → List ℕ → StrictExplorer → Type 0
 GoesOn p line answer new = StrictSessionGoesOn p.is_strict p.explorer line answer new.is_strict new.explorer
 

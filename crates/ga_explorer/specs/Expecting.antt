@@ -12,11 +12,11 @@ use Rattle.ga_scheduler.specs.declared.running.RunEnd.{RunEnd}
 use Rattle.ga_scheduler.specs.declared.running.RunResult.{RunResult}
 use Rattle.ga_scheduler.specs.Backward.{find_newest_matching_event, machine_after_back_until, event_count_removed_by_back_until}
 use Rattle.ga_scheduler.specs.Running.{scheduled_machine, run_after_events, CanMakeNextEvents, HasRunEnded}
-use Rattle.ga_scheduler.specs.Tested.{HasTestedRunEnded}
+use Rattle.ga_state_expectations.specs.Runs.{HasExpectingRunEnded}
 use Rattle.ga_display.specs.Texts.{advised_refusal_text}
 use Rattle.ga_state_expectations.specs.declared.source.LineExpectation.{LineExpectation}
 use Rattle.ga_state_expectations.specs.Lines.{line_expectation_content, known_expectations, expects_nothing}
-use Rattle.ga_state_expectations.specs.Breaking.{first_condition_expecting, has_broken_among, newest_event_expecting}
+use Rattle.ga_state_expectations.specs.Breaking.{has_broken_among, newest_event_expecting}
 use Rattle.ga_explorer.specs.declared.expecting.ExpectingRefusal.{ExpectingRefusal}
 use Rattle.ga_explorer.specs.declared.expecting.ExpectingRefusal.TheVariants.{NothingExpected, Memory}
 
@@ -30,10 +30,10 @@ pub record AreExpectationsOf (notes : Option DebugInfo) (expectations : List Lin
 abbrev pub HasRunEndedUntil : Bool → Option DebugInfo → MachineState → Schedule → ℕ → List Condition → ℕ → RunEnd → Type 0
 HasRunEndedUntil false notes s schedule most until events end = HasRunEnded (scheduled_machine s schedule) most until events end
 HasRunEndedUntil true notes s schedule most until events end =
-    (expectations : List LineExpectation) × AreExpectationsOf notes expectations × HasTestedRunEnded (first_condition_expecting expectations until) (scheduled_machine s schedule) most events end
+    (expectations : List LineExpectation) × AreExpectationsOf notes expectations × HasExpectingRunEnded expectations until (scheduled_machine s schedule) most events end
 
--- Events were made in the order of the schedule, at most `most`, up to the first after which one of the conditions holds: so many, and this is why no more
--- were, and the machine and the schedule after them.
+-- Events were made in the order of the schedule, at most `most`, up to the first after which one of the conditions holds: their number, why no more were
+-- made, and the machine and the schedule after them.
 pub record IsRunOf (notes : Option DebugInfo) (s : MachineState) (schedule : Schedule) (most : ℕ) (until : List Condition) (ran : RunResult) (new : MachineState) : Type 0 where
   pub made : CanMakeNextEvents (scheduled_machine s schedule) ran.events
   pub within : ran.events ≤ most
@@ -57,7 +57,7 @@ IsPlaceToGoBack false notes s until only place = place ≡ find_newest_matching_
 IsPlaceToGoBack true notes s until only place =
     (expectations : List LineExpectation) × AreExpectationsOf notes expectations × (place ≡ newest_event_expecting expectations until only s)
 
--- so many events were removed, or there was no such event, and the machine without them
+-- this number of events was removed, or there was no such event, and the machine without them
 pub record IsBackOf (notes : Option DebugInfo) (s : MachineState) (until : List Condition) (only : Option NodeId) (gone : Option ℕ) (new : MachineState) : Type 0 where
   pub place : Option ℕ
   pub found : IsPlaceToGoBack (has_broken_among until) notes s until only place

@@ -20,7 +20,7 @@ use Rattle.ga_explorer.specs.Answers.{AnswersExplorerLine}
 abbrev pub is_refusal_answer : Text → Bool
 is_refusal_answer answer = starts_with nat_eq answer (codes "no ")
 
--- the line is answered, and the session goes on
+-- the line is answered, and the session continues
 abbrev pub AnswersLineAndContinues : Bool → AnswerRelation ExplorerState
 AnswersLineAndContinues strict e line answer new = AnswersExplorerLine e line answer new × ((strict && is_refusal_answer answer) ≡ false)
 
@@ -48,7 +48,7 @@ abbrev pub prompt_text : Bool → Text
 prompt_text true = codes "> "
 prompt_text false = []
 
--- What is written for a line after which the session goes on: its answer, and the prompt of the next command.
+-- What is written for a line after which the session continues: its answer, and the prompt of the next command.
 abbrev pub AnswersWithPrompt : Bool → Bool → AnswerRelation ExplorerState
 AnswersWithPrompt true strict e line written new = (answer : Text) × AnswersLineAndContinues strict e line answer new × (written ≡ answer ++ prompt_text true)
 AnswersWithPrompt false strict e line written new = AnswersLineAndContinues strict e line written new

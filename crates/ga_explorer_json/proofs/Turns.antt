@@ -54,7 +54,7 @@ not_quit_part line part kept other = λ q. other (kept ∙ ap (take 201) q)
 
 -- ---- the machine of such a session
 
--- how it answers a line after which it goes on, and one at which it ends
+-- how it answers a line after which it continues, and one at which it ends
 abbrev pub GoesOn : JsonExplorer → List ℕ → List ℕ → JsonExplorer → Type 0
 GoesOn p line answer new = JsonSessionGoesOn p.is_strict (explorer_state p.lab p.notes) line answer new.is_strict (explorer_state new.lab new.notes)
 

@@ -1,8 +1,7 @@
 -- The texts of what `expectations` answers are UTF-8.
-use Rattle.std.proofs.Common.{◌≡◌, ℕ, ◌+◌, List, [], ◌∷◌, ◌++◌, drop, Bool, true, false, codes, inl, inr, refl, sym, subst}
-use Rattle.std.specs.Prelude.{pos, Option}
+use Rattle.std.proofs.Common.{◌≡◌, ℕ, ◌+◌, List, [], ◌∷◌, ◌++◌, Bool, true, false, codes, inl, inr, refl, sym, subst}
+use Rattle.std.specs.Prelude.{Option}
 use Rattle.std.specs.Str.{IsUtf8}
-use Rattle.ga_text.specs.Digits.{name_of_node}
 use Rattle.ga_ports.specs.Address.{single_side_set, has_side}
 use Rattle.ga_ports.specs.declared.side.Side.TheVariants as side
 use Rattle.ga_lab.specs.Machine.{MachineState}
@@ -20,7 +19,7 @@ use Rattle.ga_state_expectations.specs.declared.status.SessionBreach.TheVariants
 use Rattle.ga_state_expectations.specs.Statuses.{expectation_status}
 use Rattle.ga_check_report.specs.ExpectationJson.{listed_sides, side_list_text, observation_keyword, observation_detail_fields}
 use Rattle.ga_check_report.specs.LinkFaults.{link_fault_keyword, link_fault_detail_fields}
-use Rattle.ga_json.specs.Values.{JsonValue, number, string}
+use Rattle.ga_json.specs.Values.{JsonValue}
 use Rattle.ga_json.specs.Compact.{IsWritableValue}
 use Rattle.ga_explorer_json.specs.Expected.{status_keyword, session_breach_keyword, status_cause_json, session_breach_fields, status_detail_fields, status_front_fields, status_json, status_row, statuses_head_fields, statuses_json, IsExpectationsJson}
 use Rattle.ga_explorer_json.specs.Rows.{json_rows_of_items}
@@ -95,7 +94,7 @@ breached (Reached made) = made_event made
 breached (Stuck node) = fields (session_breach_fields (Stuck node)) refl (node_name node, tt)
 breached (OverLink place fault) = over_link place fault
 
--- ---- how it stands
+-- ---- its status
 
 status_word : (status : ExpectationStatus) → IsUtf8 (status_keyword status)
 unfolding is_low

@@ -1,5 +1,5 @@
 -- What `expectations` answers, as a JSON value (docs/REFERENCE.md, "Expectations in a session"; this project's own): a row for each expectation of the source,
--- with how it stands.
+-- with its status.
 use Rattle.std.specs.Prelude.{◌≡◌, ℕ, pos, ◌↔◌, ◌⊎◌, Bool, IsTrue, List, [], ◌∷◌, ◌++◌, map, codes, Option}
 use Rattle.ga_text.specs.Lines.{Text}
 use Rattle.ga_text.specs.Digits.{name_of_node}
@@ -24,7 +24,7 @@ use Rattle.ga_explorer_json.specs.Events.{made_event_fields}
 use Rattle.ga_explorer_json.specs.Refusals.{lab_refusal_json}
 use Rattle.ga_explorer_json.specs.Rows.{json_rows_of_items}
 
--- ---- how an expectation stands
+-- ---- the status of an expectation
 
 abbrev pub status_keyword : ExpectationStatus → Text
 status_keyword Held = codes "held"
@@ -56,7 +56,7 @@ status_detail_fields Pending = []
 
 -- ---- the rows
 
--- its line and words, how it stands, and what breaks it
+-- its line and words, its status, and what breaks it
 abbrev pub status_front_fields : LineExpectation → ExpectationStatus → List NamedValue
 status_front_fields one status =
     (codes "line", number (pos one.line)) ∷ (codes "text", text_json one.text.items) ∷ (codes "outcome", string (status_keyword status)) ∷ (codes "because", status_cause_json status) ∷ []
@@ -76,7 +76,7 @@ statuses_json stuck is_quiet s expectations = json_report statuses_head_fields (
 
 -- ---- the answer
 
--- Each of the expectations has a row with how it stands on the machine. The deadlocked nodes are the greatest set of such nodes.
+-- Each of the expectations has a row with its status on the machine. The deadlocked nodes are the greatest set of such nodes.
 pub record AreStatusesJson (s : MachineState) (expectations : List LineExpectation) (answer : JsonValue) : Type 0 where
   pub marks : ℕ → Bool
   pub stuck : AreDeadlocked (chip_of_machine s) marks

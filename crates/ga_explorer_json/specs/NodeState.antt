@@ -49,7 +49,7 @@ stack_part_at_index k = if nat_lt k 10 then part.Data k else part.Return (k - 10
 abbrev pub stack_word_json : NodeRecord → ℕ → JsonValue
 stack_word_json node k = json_object (part_word_fields (stack_part_at_index k) (node_part_value 0 node (stack_part_at_index k)))
 
--- so many of them, from this one on
+-- a number of them, from this one on
 unfoldable pub stack_rows : NodeRecord → ℕ → ℕ → JsonItems
 stack_rows node k zero = no_items
 stack_rows node k (suc more) = item (stack_word_json node k) (stack_rows node (k + 1) more)

@@ -1,5 +1,5 @@
 -- What a whole session of exploring may write as JSON, and how it may end (docs/JSON.md; this project's own).
-use Rattle.std.specs.Prelude.{◌≡◌, ◌&&◌, ℕ, ◌-◌, [], ◌∷◌, ◌++◌, length, codes, nat_eq, Bool, true, false, Option, Result, Ok, Err}
+use Rattle.std.specs.Prelude.{◌≡◌, ◌&&◌, ℕ, ◌-◌, [], ◌∷◌, ◌++◌, length, codes, nat_eq, Bool, true, false, Option, Result}
 use Rattle.std.specs.List.{starts_with}
 use Rattle.ga_text.specs.Lines.{Bytes, Text}
 use Rattle.ga_text.specs.Input.{input_limit}
@@ -34,7 +34,7 @@ text_after_comma text = text_after_first_such_byte 44 text
 abbrev pub is_json_refusal : Text → Bool
 is_json_refusal answer = starts_with nat_eq (text_after_comma answer) (codes "\"refused\":")
 
--- the line is answered, and the session goes on
+-- the line is answered, and the session continues
 abbrev pub AnswersJsonAndContinues : Bool → AnswerRelation ExplorerState
 AnswersJsonAndContinues strict e line answer new = AnswersJsonLine e line answer new × ((strict && is_json_refusal answer) ≡ false)
 

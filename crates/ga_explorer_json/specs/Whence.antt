@@ -97,7 +97,7 @@ provenance_head_fields notes s node step first queried more =
     ++ queried
     ++ step_source_fields notes s node step
 
--- the line from which to go on after so many
+-- the line from which to continue after these
 abbrev pub next_provenance_line_number : ℕ → Bool → Option ℕ
 next_provenance_line_number lines true = None
 next_provenance_line_number lines false = Some (lines + 1)

@@ -63,7 +63,7 @@ has_waiting_node_row chip marks idle n = not (idle n) && (is_node_waiting (node_
 abbrev pub json_row_if_flag : Bool → JsonValue → JsonItems → JsonItems
 json_row_if_flag test row rest = if test then item row rest else rest
 
--- the rows of so many nodes from this one on
+-- the rows of a number of nodes, from this one on
 unfoldable pub waiting_node_rows : List NodeRecord → (ℕ → Bool) → (ℕ → Bool) → (ℕ → Bool) → ℕ → ℕ → JsonItems
 waiting_node_rows chip marks over idle n zero = no_items
 waiting_node_rows chip marks over idle n (suc more) = json_row_if_flag (has_waiting_node_row chip marks idle n) (waiting_node_json chip (marks n) (over n) n) (waiting_node_rows chip marks over idle (n + 1) more)

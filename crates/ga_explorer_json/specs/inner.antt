@@ -27,7 +27,7 @@ pub record IsQueryJsonWritten {T W : Type 0} (result : Result T WriteError) (e :
 abbrev pub json_action_after_answer : Bool → Text → LineAction
 json_action_after_answer strict answer = if strict && is_json_refusal answer then turn.Refused else turn.Answered
 
--- what a line asks for is answered, as far as the answer can be written, and the session goes on or ends
+-- what a line asks for is answered, as far as the answer can be written, and the session continues or ends
 abbrev pub RespondsToLineRequest : Bool → ExplorerState → Line → LineRequest → ExplorerState → Result LineAction WriteError → Text → Type 0
 RespondsToLineRequest strict e line request new (Ok turn.Answered) answer = AnswersLineRequest e line request answer new × ((strict && is_json_refusal answer) ≡ false)
 RespondsToLineRequest strict e line request new (Ok turn.Refused) answer = AnswersLineRequest e line request answer new × ((strict && is_json_refusal answer) ≡ true)

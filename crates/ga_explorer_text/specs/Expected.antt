@@ -1,4 +1,4 @@
--- What `expectations` prints: of each expectation of the source how it stands (docs/REFERENCE.md, "Exploring"; this project's own).
+-- What `expectations` prints: the status of each expectation of the source (docs/REFERENCE.md, "Exploring"; this project's own).
 use Rattle.std.specs.Prelude.{◌≡◌, ℕ, ◌↔◌, Bool, IsTrue, ◌⊎◌, List, [], ◌∷◌, ◌++◌, flat_map, map, codes, decimal, Option}
 use Rattle.ga_text.specs.Lines.{Text}
 use Rattle.ga_text.specs.Digits.{name_of_node}
@@ -42,7 +42,7 @@ status_details Pending = []
 abbrev pub status_text : ExpectationStatus → Text
 status_text status = status_start status ++ status_details status
 
--- where it is, its words and how it stands, where these nodes are deadlocked and an event is possible or none is
+-- where it is, its words and its status, where these nodes are deadlocked and an event is possible or none is
 abbrev pub status_line : (ℕ → Bool) → Bool → MachineState → LineExpectation → Text
 status_line stuck is_quiet s one = expectation_line_start one.line ++ one.text.items ++ status_text (expectation_status stuck is_quiet one.expectation s)
 
@@ -55,7 +55,7 @@ abbrev pub expectations_status_text : (ℕ → Bool) → Bool → MachineState �
 expectations_status_text stuck is_quiet s [] = codes "none\n"
 expectations_status_text stuck is_quiet s (one ∷ others) = status_lines_text stuck is_quiet s (one ∷ others)
 
--- How each of the expectations stands on the machine is written. The deadlocked nodes are the greatest set of such nodes.
+-- The status of each of the expectations on the machine is written. The deadlocked nodes are the greatest set of such nodes.
 pub record AreStatusesWritten (s : MachineState) (expectations : List LineExpectation) (answer : Text) : Type 0 where
   pub marks : ℕ → Bool
   pub stuck : AreDeadlocked (chip_of_machine s) marks

@@ -1,20 +1,20 @@
 -- A step leaves what held after the events before it.
-use Rattle.std.proofs.Common.{◌≡◌, ◌∙◌, ℕ, zero, suc, ◌+◌, ◌<◌, ◌≤◌, min, ◌||◌, Bool, true, false, cond, List, [], ◌∷◌, ◌++◌, length, take, Option, Some, None, refl, sym, ap, subst, arith, length-append}
-use Rattle.std.specs.Prelude.{IsSome, option_and_then}
+use Rattle.std.proofs.Common.{◌≡◌, ◌∙◌, ℕ, zero, suc, ◌+◌, ◌<◌, ◌≤◌, min, ◌||◌, Bool, true, false, cond, List, [], ◌∷◌, ◌++◌, length, take, Option, Some, None, refl, sym, ap, arith, length-append}
+use Rattle.std.specs.Prelude.{option_and_then}
 use Rattle.std.specs.List.{slice_get}
 use Rattle.std.proofs.lemmas.List.{take-append-le}
 use Rattle.ga_node.specs.Record.{NodeRecord}
 use Rattle.ga_event.specs.declared.event.Event.{Event}
 use Rattle.ga_event.specs.declared.event.EventWithLook.{EventWithLook}
 use Rattle.ga_event.specs.declared.made.MadeEvent.{MadeEvent}
-use Rattle.ga_event.specs.Apply.{MadeEventOutcome, event_refusal, event_result, event_with_look_on_chip, replay}
+use Rattle.ga_event.specs.Apply.{MadeEventOutcome, event_refusal, event_result, event_with_look_on_chip}
 use Rattle.ga_event.specs.Told.{made_event_at_place, made_event_after, events_without_outcomes}
 use Rattle.ga_event.proofs.Nexts.{next_can}
 use Rattle.ga_lab.specs.Machine.{MachineState, chip_of_machine, machine_events_with_outcomes, earlier_state}
 use Rattle.ga_scheduler.specs.declared.condition.Condition.{Condition}
 use Rattle.ga_scheduler.specs.declared.condition.Condition.TheVariants.{Never, PassesWord, PassesNthWord, MakesNumberedStep, AnyNodeStops, GivenNodeStops, GivenNodeWaits, HoldsPlaceValue, ReachesAddress, WritesRamCell, Broken}
 use Rattle.ga_scheduler.specs.Conditions.{holds_after_made_event}
-use Rattle.ga_scheduler.specs.Tested.{IsRunStep}
+use Rattle.ga_scheduler.specs.Watched.{IsRunStep}
 use Rattle.ga_scheduler.specs.Oldest.{earlier_place, holds_after_optional_event, has_held_at, oldest_holding_event, oldest_event_of_conditions}
 use Rattle.ga_scheduler.proofs.Stepping.{StepIs, step_is, stepped_is}
 use Rattle.ga_scheduler.proofs.WordCounts.{told_behind, kept_told}

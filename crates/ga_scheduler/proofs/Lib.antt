@@ -7,7 +7,6 @@ pub mod WordCounts
 pub mod Newest
 pub mod Needing
 pub mod Backing
-pub mod TestedRuns
 pub mod OldestEvents
 pub mod OldestLaws
 pub mod EarlierEvents

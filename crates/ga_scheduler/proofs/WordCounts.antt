@@ -5,7 +5,7 @@ use Rattle.ga_event.specs.declared.made.MadeEvent.{MadeEvent}
 use Rattle.ga_event.specs.declared.made.MadeEvent.TheVariants as made
 use Rattle.ga_scheduler.specs.declared.words.Transfer.{Transfer}
 use Rattle.ga_scheduler.specs.Words.{transfer_of_event, transfers_over_link_by_event, numbered_transfers, is_transfer_over_link, scanned_link_end, link_transfer_count}
-use Rattle.ga_scheduler.specs.Tested.{IsRunStep}
+use Rattle.ga_scheduler.specs.Watched.{IsRunStep}
 use Rattle.std.proofs.lemmas.Option.{none-some}
 use Rattle.ga_grid.specs.declared.node_id.NodeId.{NodeId}
 use Rattle.ga_event.specs.declared.event.Event.{Event}

@@ -8,5 +8,4 @@ pub mod Effects
 pub mod Words
 pub mod inner
 pub mod Idle
-pub mod Tested
 pub mod Oldest

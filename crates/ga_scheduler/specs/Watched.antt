@@ -2,11 +2,12 @@
 -- may have precedence: it makes each event that it has, and the others their own, in the order of the schedule, only while it
 -- has none. (Debug Adapter Protocol, "ContinueRequest", "StepInRequest"; which of several nodes comes first is this project's
 -- own.)
-use Rattle.std.specs.Prelude.{◌≡◌, ℕ, zero, suc, ◌+◌, ◌-◌, ◌<◌, Bool, true, false, if◌then◌else◌, length, Option, Some, None, IsSome}
+use Rattle.std.specs.Prelude.{◌≡◌, ℕ, zero, suc, ◌+◌, ◌-◌, ◌<◌, Bool, true, false, if◌then◌else◌, length, Option, Some, None, Ok, IsSome}
 use Rattle.ga_grid.specs.declared.node_id.NodeId.{NodeId}
+use Rattle.ga_event.specs.Apply.{replay}
 use Rattle.ga_event.specs.Told.{made_event_at_place}
 use Rattle.ga_event.specs.declared.made.MadeEvent.{MadeEvent}
-use Rattle.ga_lab.specs.Machine.{MachineState, chip_of_machine, machine_events_with_outcomes, step_answer}
+use Rattle.ga_lab.specs.Machine.{MachineState, chip_of_machine, machine_events_with_outcomes, step_answer, state_after_step}
 use Rattle.ga_scheduler.specs.declared.watched.WatchedRunEnd.{WatchedRunEnd}
 use Rattle.ga_scheduler.specs.declared.watched.WatchedRunEnd.TheVariants as the_end
 use Rattle.ga_races.specs.Orders.{node_has_event}
@@ -15,6 +16,13 @@ use Rattle.ga_scheduler.specs.Running.{ScheduledMachine, node_to_run, next_event
 -- this is the report of the newest event in the history
 abbrev pub IsReportOfNewestEvent : MachineState → MadeEvent → Type 0
 IsReportOfNewestEvent s made = made_event_at_place (machine_events_with_outcomes s) (length s.kept - 1) ≡ Some made
+
+-- a step of a node led from a machine whose history can be replayed to another, and was reported so
+pub record IsRunStep (old new : MachineState) (made : MadeEvent) : Type 0 where
+  pub node : NodeId
+  pub replays : IsSome (replay old.load old.kept)
+  pub told : step_answer old node ≡ Ok made
+  pub moved : new ≡ state_after_step old node
 
 -- ---- a node has precedence
 

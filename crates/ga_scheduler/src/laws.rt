@@ -8,13 +8,12 @@ ghost use Rattle.ga_lab.specs.Machine.{MachineState, initial_state, machine_even
 ghost use Rattle.ga_event.specs.declared.made.MadeEvent.{MadeEvent};
 ghost use Rattle.ga_scheduler.specs.Words.{link_transfer_count, transfers_over_link_by_event};
 ghost use Rattle.ga_scheduler.specs.Oldest.{find_oldest_matching_event, IsOldestMatchingEvent};
-ghost use Rattle.ga_scheduler.specs.Tested.{IsRunStep};
 ghost use Rattle.ga_scheduler.specs.Backward.{has_condition_held_at, find_newest_matching_event, IsNewestMatchingEvent, event_count_removed_by_back_until, step_number_of_event, machine_after_undos};
 ghost use Rattle.ga_scheduler.specs.Running.{ScheduledMachine, run_after_events, HasNoConditionHeld, HasRunEnded};
 ghost use Rattle.ga_scheduler.specs.declared.condition.Condition.{Condition};
 ghost use Rattle.ga_scheduler.specs.declared.running.RunEnd.{RunEnd};
 ghost use Rattle.ga_scheduler.specs.declared.watched.WatchedRunEnd.{WatchedRunEnd};
-ghost use Rattle.ga_scheduler.specs.Watched.{run_after_events_with_precedence, make_run_watch, watch_state_after_events, HasNoWatchEnd, HasWatchedRunEnded};
+ghost use Rattle.ga_scheduler.specs.Watched.{IsRunStep, run_after_events_with_precedence, make_run_watch, watch_state_after_events, HasNoWatchEnd, HasWatchedRunEnded};
 
 use crate::watch::StopCondition;
 
@@ -33,10 +32,10 @@ pub fn run_slices_compose()
 pub fn watched_slices_are_one_run<W: StopCondition>()
     ensures events { (node : Option NodeId) (r : ScheduledMachine) (first second : ℕ) →
         run_after_events_with_precedence node (run_after_events_with_precedence node r first) second ≡ run_after_events_with_precedence node r (first + second) }
-    ensures watch { (node : Option NodeId) (w : W) (r : ScheduledMachine) (first second : ℕ) →
+    ensures watch { (node : Option NodeId) (w : W.State) (r : ScheduledMachine) (first second : ℕ) →
         let by = make_run_watch node W.ends W.seen in
         watch_state_after_events by (watch_state_after_events by w r first) (run_after_events_with_precedence node r first) second ≡ watch_state_after_events by w r (first + second) }
-    ensures end { (node : Option NodeId) (w : W) (r : ScheduledMachine) (first most second : ℕ) (end : WatchedRunEnd) →
+    ensures end { (node : Option NodeId) (w : W.State) (r : ScheduledMachine) (first most second : ℕ) (end : WatchedRunEnd) →
         let by = make_run_watch node W.ends W.seen in
         HasNoWatchEnd by w r first → HasWatchedRunEnded by (watch_state_after_events by w r first) (run_after_events_with_precedence node r first) most second end →
         HasWatchedRunEnded by w r (first + most) (first + second) end }

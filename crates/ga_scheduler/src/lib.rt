@@ -14,7 +14,6 @@ mod ready;
 mod reverse_search;
 mod running;
 mod schedule;
-mod tested;
 mod value_test;
 mod watch;
 mod watched;
@@ -35,7 +34,6 @@ pub use reverse_search::{
 };
 pub use running::{RunEnd, RunResult, run_schedule};
 pub use schedule::{Schedule, ScheduleOrder};
-pub use tested::{RunTest, run_tested};
 pub use value_test::{Comparison, NodeValue, ValueTest};
 pub use watch::StopCondition;
 pub use watched::{WatchedRun, WatchedRunEnd, has_newest_event_stored_in_cell, run_watched};

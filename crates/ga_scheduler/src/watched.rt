@@ -7,7 +7,7 @@ ghost use Rattle.ga_scheduler.specs.declared.condition.Condition.TheVariants.{Wr
 ghost use Rattle.ga_scheduler.specs.Conditions.{holds_after_made_event};
 ghost use Rattle.ga_scheduler.specs.inner.{HoldsExactlyReadyNodes, IsReadySetKnowledgeTrue, is_random_order};
 ghost use Rattle.ga_scheduler.specs.Running.{scheduled_machine};
-ghost use Rattle.ga_scheduler.specs.Watched.{IsReportOfNewestEvent, next_node_with_precedence, next_event_with_precedence, run_after_event_with_precedence, run_after_events_with_precedence, CanMakeNextPrecedenceEvents, make_run_watch, watch_state_after_events, IsPrecedenceRunEndWithoutNextEvent, IsWatchEndAtNewestEvent, HasWatchedRunEnded};
+ghost use Rattle.ga_scheduler.specs.Watched.{IsReportOfNewestEvent, IsRunStep, next_node_with_precedence, next_event_with_precedence, run_after_event_with_precedence, run_after_events_with_precedence, CanMakeNextPrecedenceEvents, make_run_watch, watch_state_after_events, IsPrecedenceRunEndWithoutNextEvent, IsWatchEndAtNewestEvent, HasWatchedRunEnded};
 
 use crate::drawing::Known;
 use crate::edges::writes;
@@ -90,6 +90,7 @@ fn go(
     ensures ready { OnOk result (HoldsExactlyReadyNodes (chip_of_machine lab.new) ready.new) }
     ensures known { OnOk result (IsReadySetKnowledgeTrue ready.new known.new) }
     ensures draws { draws ≡ is_random_order schedule.new.order }
+    ensures step { IfOk result (IsRunStep lab.old lab.new) }
     ensures newest { IfOk result (λ made. IsReportOfNewestEvent lab.new made) }
     ensures replays { OnOk result (IsSome (replay lab.new.load lab.new.kept)) }
     ensures halted { IfErr result (IsPrecedenceRunEndWithoutNextEvent first (scheduled_machine lab.old schedule.old)) }
@@ -115,12 +116,14 @@ pub fn run_watched<W: StopCondition>(
     most: u64,
     watch: &mut W,
 ) -> WatchedRun
+    requires { W.remembers watch.old lab.old }
     ensures state { scheduled_machine lab.new result.schedule ≡ run_after_events_with_precedence first (scheduled_machine lab.old schedule) result.events }
     ensures made { CanMakeNextPrecedenceEvents first (scheduled_machine lab.old schedule) result.events }
-    ensures watch { watch.new ≡ watch_state_after_events (make_run_watch first W.ends W.seen) watch.old (scheduled_machine lab.old schedule) result.events }
+    ensures watch { W.state watch.new ≡ watch_state_after_events (make_run_watch first W.ends W.seen) (W.state watch.old) (scheduled_machine lab.old schedule) result.events }
     ensures most { result.events ≤ most }
     ensures newest { IsWatchEndAtNewestEvent lab.new result.end }
-    ensures end { HasWatchedRunEnded (make_run_watch first W.ends W.seen) watch.old (scheduled_machine lab.old schedule) most result.events result.end }
+    ensures remembers { W.remembers watch.new lab.new }
+    ensures end { HasWatchedRunEnded (make_run_watch first W.ends W.seen) (W.state watch.old) (scheduled_machine lab.old schedule) most result.events result.end }
 {
     let mut ready = ready_nodes(lab.chip());
     let mut known = Known::no_known_nodes();

@@ -1,5 +1,5 @@
--- The event that broke an expectation is the oldest that goes against it.
-use Rattle.std.proofs.Common.{◌≡◌, ◌∙◌, ℕ, zero, suc, ◌+◌, ◌<◌, ◌||◌, Bool, true, false, cond, List, [], ◌∷◌, length, Option, Some, None, refl, sym, ap, subst, arith}
+-- The event that broke an expectation is the oldest that violates it.
+use Rattle.std.proofs.Common.{◌≡◌, ℕ, zero, suc, ◌+◌, ◌<◌, ◌||◌, Bool, false, List, [], ◌∷◌, length, Option, Some, None, refl, sym, subst, arith}
 use Rattle.ga_event.specs.Told.{made_event_at_place}
 use Rattle.ga_event.specs.declared.made.MadeEvent.{MadeEvent}
 use Rattle.ga_lab.specs.Machine.{MachineState, machine_events_with_outcomes, earlier_state}

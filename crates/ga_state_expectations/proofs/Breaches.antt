@@ -1,7 +1,7 @@
 -- The search for the event that broke an expectation.
-use Rattle.std.proofs.Common.{◌≡◌, ◌∙◌, ℕ, zero, suc, ◌+◌, ◌<◌, ◌≤◌, max, Bool, cond, List, drop, length, get_or, Option, Some, None, refl, sym, ap, arith, add-one}
+use Rattle.std.proofs.Common.{◌≡◌, ◌∙◌, ℕ, zero, suc, ◌+◌, ◌<◌, ◌≤◌, max, ◌||◌, Bool, true, false, cond, List, [], ◌∷◌, drop, length, get_or, Option, Some, None, refl, sym, ap, arith, add-one}
 use Rattle.std.proofs.lemmas.List.{drop_more, drop_all}
-use Rattle.std.specs.Prelude.{IfSome}
+use Rattle.std.specs.Prelude.{IfSome, is_some}
 use Rattle.ga_grid.specs.declared.node_id.NodeId.{NodeId}
 use Rattle.ga_event.specs.Told.{made_event_at_place}
 use Rattle.ga_event.specs.declared.made.MadeEvent.{MadeEvent}
@@ -13,7 +13,7 @@ use Rattle.ga_state_conditions.specs.declared.condition.StateCondition.{StateCon
 use Rattle.ga_state_links.specs.declared.expectation.LinkExpectation.{LinkExpectation}
 use Rattle.ga_state_expectations.specs.declared.source.LineExpectation.{LineExpectation}
 use Rattle.ga_state_expectations.specs.Violations.{is_unexpected_transfer}
-use Rattle.ga_state_expectations.specs.Breaking.{is_unexpected_optional_transfer, is_unexpected_transfer_at, oldest_unexpected_transfer, oldest_event_of_never_condition, oldest_event_of_never, oldest_violation, later_place, place_if_considered, newest_breach}
+use Rattle.ga_state_expectations.specs.Breaking.{is_unexpected_optional_transfer, is_unexpected_transfer_at, oldest_unexpected_transfer, oldest_event_of_never_condition, oldest_event_of_never, oldest_violation, later_place, place_if_considered, newest_breach, breaks_expectation, breaks_one_expectation, line_broken_by_newest_event}
 
 -- ---- words over a link
 
@@ -82,3 +82,14 @@ pub later_within : (a b : Option ℕ) (n : ℕ) → IfSome a (λ p. p < n) → I
 later_within None b n h k = k
 later_within (Some x) None n h k = h
 later_within (Some x) (Some y) n h k = omega (arith, h, k)
+
+-- ---- the line of the first expectation that the newest event broke
+
+pub broken_by_line : (all : List LineExpectation) (s : MachineState) → breaks_one_expectation all s ≡ is_some (line_broken_by_newest_event all s)
+broken_by_line [] s = refl
+broken_by_line (one ∷ others) s = go (breaks_expectation one.expectation s) (broken_by_line others s)
+  where
+    go : (b : Bool) → breaks_one_expectation others s ≡ is_some (line_broken_by_newest_event others s)
+        → (b || breaks_one_expectation others s) ≡ is_some (cond b (Some one.line) (line_broken_by_newest_event others s))
+    go true rest = refl
+    go false rest = rest

@@ -1,5 +1,5 @@
 -- What is known to be broken stays so, and no later event breaks it.
-use Rattle.std.proofs.Common.{◌≡◌, ◌∙◌, ℕ, zero, suc, ◌+◌, ◌<◌, ◌≤◌, ◌==◌, min, Bool, true, false, cond, List, [], ◌∷◌, ◌++◌, length, take, Option, Some, None, refl, sym, ap, subst, arith}
+use Rattle.std.proofs.Common.{◌≡◌, ◌∙◌, ℕ, zero, suc, ◌+◌, ◌<◌, ◌≤◌, ◌==◌, min, Bool, true, false, cond, List, [], ◌∷◌, length, Option, Some, None, refl, sym, ap, arith}
 use Rattle.std.specs.Prelude.{IsSome, is_some}
 use Rattle.std.proofs.lemmas.Bool.{true≢false, false_from_ne_true, eqb-true}
 use Rattle.ga_node.specs.Record.{NodeRecord}
@@ -9,7 +9,7 @@ use Rattle.ga_event.specs.Told.{made_event_at_place}
 use Rattle.ga_lab.specs.Machine.{MachineState, machine_events_with_outcomes, earlier_state}
 use Rattle.ga_scheduler.specs.Words.{link_transfer_count}
 use Rattle.ga_scheduler.specs.Oldest.{earlier_place}
-use Rattle.ga_scheduler.specs.Tested.{IsRunStep}
+use Rattle.ga_scheduler.specs.Watched.{IsRunStep}
 use Rattle.ga_scheduler.proofs.OldestLaws.{Found}
 use Rattle.ga_scheduler.proofs.EarlierEvents.{HasOneMore, one_more_event, told_before_step, kept_before, length_more, IsOldestWith, both_with, none_with, all_with}
 use Rattle.ga_state_conditions.specs.declared.condition.StateCondition.{StateCondition}
@@ -18,7 +18,7 @@ use Rattle.ga_state_links.specs.declared.expectation.LinkExpectation.{LinkExpect
 use Rattle.ga_state_expectations.specs.declared.source.Expectation.{Expectation}
 use Rattle.ga_state_expectations.specs.declared.source.Expectation.TheVariants.{NodeAtEveryEnd, Never, LinkPassesWords, EveryOrderEnds, OneEnd}
 use Rattle.ga_state_expectations.specs.Violations.{is_unexpected_transfer}
-use Rattle.ga_state_expectations.specs.Breaking.{is_unexpected_optional_transfer, is_unexpected_transfer_at, oldest_unexpected_transfer, oldest_event_of_never_condition, oldest_event_of_never, oldest_violation, is_last_place, breaks_expectation}
+use Rattle.ga_state_expectations.specs.Breaking.{is_unexpected_optional_transfer, is_unexpected_transfer_at, oldest_unexpected_transfer, oldest_event_of_never_condition, oldest_event_of_never, oldest_violation, is_last_place}
 use Rattle.ga_state_expectations.specs.inner.{IsBrokenEarlier}
 use Rattle.ga_state_expectations.proofs.BreachLaws.{violation_found}
 

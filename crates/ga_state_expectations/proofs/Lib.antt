@@ -13,3 +13,4 @@ pub mod LinkStatuses
 pub mod StuckNodes
 pub mod LinkCounts
 pub mod Tested
+pub mod ExpectingRuns

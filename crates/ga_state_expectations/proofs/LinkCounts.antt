@@ -1,18 +1,19 @@
 -- The numbers of words that passed over the links of expectations.
-use Rattle.std.proofs.Common.{◌≡◌, ◌∙◌, ℕ, ◌+◌, ◌<◌, ◌≤◌, List, length, map, set, get_or, Option, Some, None, sym, ap, inl, inr, refl, subst, arith}
+use Rattle.std.proofs.Common.{◌≡◌, ◌∙◌, ℕ, ◌+◌, ◌<◌, ◌≤◌, List, length, map, set, get_or, Option, Some, None, sym, ap, inl, inr, refl, arith}
 use Rattle.std.proofs.lemmas.List.{get_or-set_same, get_or-set_other, length-set}
 use Rattle.std.proofs.lemmas.Option.{get_or_from_slice_get, slice_get_within}
 use Rattle.std.proofs.lemmas.Bool.{cases_lt}
 use Rattle.std.specs.Prelude.{slice_get}
 use Rattle.ga_event.specs.declared.made.MadeEvent.{MadeEvent}
 use Rattle.ga_lab.specs.Machine.{MachineState}
-use Rattle.ga_scheduler.specs.Tested.{IsRunStep}
+use Rattle.ga_scheduler.specs.Watched.{IsRunStep}
 use Rattle.ga_scheduler.proofs.WordCounts.{run_step_counts}
 use Rattle.ga_state_store.proofs.Columns.{to_map}
 use Rattle.ga_state_expectations.specs.declared.source.Expectation.{Expectation}
 use Rattle.ga_state_expectations.specs.declared.source.Expectation.TheVariants.{NodeAtEveryEnd, Never, LinkPassesWords, EveryOrderEnds, OneEnd}
 use Rattle.ga_state_expectations.specs.declared.source.LineExpectation.{LineExpectation}
-use Rattle.ga_state_expectations.specs.inner.{expectation_link_words, AreLinkWordCounts, WereLinkWordCounts, event_link_words}
+use Rattle.ga_state_expectations.specs.Knowledge.{expectation_link_words, AreLinkWordCounts}
+use Rattle.ga_state_expectations.specs.inner.{WereLinkWordCounts, event_link_words}
 
 -- ---- all of them
 

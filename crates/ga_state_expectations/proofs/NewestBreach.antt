@@ -1,12 +1,12 @@
--- Whether the newest event broke an expectation, by whether it goes against it.
-use Rattle.std.proofs.Common.{◌≡◌, ◌∙◌, ℕ, ◌+◌, ◌-◌, ◌<◌, ◌==◌, Bool, true, false, List, [], ◌∷◌, length, Option, Some, None, refl, sym, ap, subst, arith}
+-- Whether the newest event broke an expectation, by whether it violates it.
+use Rattle.std.proofs.Common.{◌≡◌, ◌∙◌, ℕ, ◌+◌, ◌-◌, ◌<◌, ◌==◌, Bool, true, false, List, [], ◌∷◌, length, Option, Some, None, refl, sym, ap, arith}
 use Rattle.std.specs.Prelude.{IsSome}
 use Rattle.std.proofs.lemmas.Bool.{true≢false, eqb-true}
 use Rattle.ga_event.specs.declared.event.Event.{Event}
 use Rattle.ga_event.specs.declared.made.MadeEvent.{MadeEvent}
 use Rattle.ga_event.specs.Apply.{run_events}
 use Rattle.ga_event.specs.Told.{made_event_at_place}
-use Rattle.ga_lab.specs.Machine.{MachineState, machine_events_with_outcomes, run_events_with_outcomes, earlier_state}
+use Rattle.ga_lab.specs.Machine.{MachineState, run_events_with_outcomes, earlier_state}
 use Rattle.ga_scheduler.specs.Watched.{IsReportOfNewestEvent}
 use Rattle.ga_scheduler.proofs.Newest.{whole_earlier}
 use Rattle.ga_state_expectations.specs.declared.source.Expectation.{Expectation}

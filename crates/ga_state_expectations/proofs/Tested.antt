@@ -1,5 +1,5 @@
 -- Which expectations the newest event broke, and which of some conditions is the first that holds after it.
-use Rattle.std.proofs.Common.{◌≡◌, ◌∙◌, ℕ, zero, suc, ◌+◌, ◌<◌, ◌≤◌, ◌||◌, Bool, true, false, cond, List, [], ◌∷◌, length, drop, set, get_or, Option, Some, None, sym, ap, inl, inr, refl, subst, arith}
+use Rattle.std.proofs.Common.{◌≡◌, ◌∙◌, ℕ, zero, suc, ◌+◌, ◌<◌, ◌≤◌, ◌||◌, Bool, true, false, cond, List, [], ◌∷◌, length, drop, set, get_or, Some, None, sym, ap, inl, inr, refl, subst, arith}
 use Rattle.std.specs.Prelude.{slice_get, slice_index_or, option_map, IsSome}
 use Rattle.std.specs.List.{list_any}
 use Rattle.std.proofs.lemmas.List.{drop_more, drop_all, get_or-set_same, get_or-set_other, length-set}
@@ -9,8 +9,9 @@ use Rattle.ga_event.specs.declared.made.MadeEvent.{MadeEvent}
 use Rattle.ga_lab.specs.Machine.{MachineState}
 use Rattle.ga_scheduler.specs.declared.condition.Condition.{Condition}
 use Rattle.ga_state_expectations.specs.declared.source.LineExpectation.{LineExpectation}
-use Rattle.ga_state_expectations.specs.Breaking.{oldest_violation, breaks_expectation, breaks_one_expectation, condition_holds_expecting, first_condition_expecting}
-use Rattle.ga_state_expectations.specs.inner.{AreKnownBroken, IsBrokenEarlier, AreBrokenEarlier}
+use Rattle.ga_state_expectations.specs.Breaking.{oldest_violation, breaks_expectation, breaks_one_expectation, condition_holds_given_breach, first_condition_given_breach}
+use Rattle.ga_state_expectations.specs.Knowledge.{AreKnownBroken}
+use Rattle.ga_state_expectations.specs.inner.{IsBrokenEarlier, AreBrokenEarlier}
 
 -- ---- flags
 
@@ -78,27 +79,25 @@ none_broken all s n flags l h = sym (ap (list_any (λ one. breaks_expectation on
 
 -- ---- conditions
 
--- None of the first `n` conditions holds, and the expectations that are flagged were broken before the newest event.
-pub record AreConditionsTested (all : List LineExpectation) (until : List Condition) (m : MadeEvent) (s : MachineState) (n : ℕ) (flags : List Bool) : Type 0 where
-  pub size : length flags ≡ length all
-  pub earlier : AreBrokenEarlier all s flags
-  pub none : (k : ℕ) (one : Condition) → slice_get until k ≡ Some one → k < n → condition_holds_expecting all one m s ≡ false
+-- None of the first `n` conditions holds.
+abbrev pub IsNoConditionHeld : Bool → List Condition → MadeEvent → MachineState → ℕ → Type 0
+IsNoConditionHeld breaks until m s n = (k : ℕ) (one : Condition) → slice_get until k ≡ Some one → k < n → condition_holds_given_breach breaks one m s ≡ false
 
-pub held_first : (all : List LineExpectation) (until : List Condition) (i : ℕ) (one : Condition) (m : MadeEvent) (s : MachineState) → slice_get until i ≡ Some one
-    → ((k : ℕ) (other : Condition) → slice_get until k ≡ Some other → k < i → condition_holds_expecting all other m s ≡ false)
-    → condition_holds_expecting all one m s ≡ true → first_condition_expecting all until m s ≡ Some i
-unfolding first_condition_expecting
-held_first all [] i one m s is before h = absurd (cc)
-held_first all (c ∷ cs) zero one m s is before h =
-    ap (λ (b : Bool). cond b (Some 0) (option_map suc (first_condition_expecting all cs m s))) (ap (λ z. condition_holds_expecting all z m s) (same_Some c one is) ∙ h)
-held_first all (c ∷ cs) (suc i) one m s is before h =
-    ap (λ (b : Bool). cond b (Some 0) (option_map suc (first_condition_expecting all cs m s))) (before 0 c refl (omega arith))
-    ∙ ap (option_map suc) (held_first all cs i one m s is (λ k other at l. before (suc k) other at (omega arith)) h)
+pub held_first : (breaks : Bool) (until : List Condition) (i : ℕ) (one : Condition) (m : MadeEvent) (s : MachineState) → slice_get until i ≡ Some one
+    → ((k : ℕ) (other : Condition) → slice_get until k ≡ Some other → k < i → condition_holds_given_breach breaks other m s ≡ false)
+    → condition_holds_given_breach breaks one m s ≡ true → first_condition_given_breach breaks until m s ≡ Some i
+unfolding first_condition_given_breach
+held_first breaks [] i one m s is before h = absurd (cc)
+held_first breaks (c ∷ cs) zero one m s is before h =
+    ap (λ (b : Bool). cond b (Some 0) (option_map suc (first_condition_given_breach breaks cs m s))) (ap (λ z. condition_holds_given_breach breaks z m s) (same_Some c one is) ∙ h)
+held_first breaks (c ∷ cs) (suc i) one m s is before h =
+    ap (λ (b : Bool). cond b (Some 0) (option_map suc (first_condition_given_breach breaks cs m s))) (before 0 c refl (omega arith))
+    ∙ ap (option_map suc) (held_first breaks cs i one m s is (λ k other at l. before (suc k) other at (omega arith)) h)
 
-pub none_held : (all : List LineExpectation) (until : List Condition) (m : MadeEvent) (s : MachineState)
-    → ((k : ℕ) (one : Condition) → slice_get until k ≡ Some one → k < length until → condition_holds_expecting all one m s ≡ false) → first_condition_expecting all until m s ≡ None
-unfolding first_condition_expecting
-none_held all [] m s h = refl
-none_held all (c ∷ cs) m s h =
-    ap (λ (b : Bool). cond b (Some 0) (option_map suc (first_condition_expecting all cs m s))) (h 0 c refl (omega arith))
-    ∙ ap (option_map suc) (none_held all cs m s (λ k other at l. h (suc k) other at (omega arith)))
+pub none_held : (breaks : Bool) (until : List Condition) (m : MadeEvent) (s : MachineState)
+    → ((k : ℕ) (one : Condition) → slice_get until k ≡ Some one → k < length until → condition_holds_given_breach breaks one m s ≡ false) → first_condition_given_breach breaks until m s ≡ None
+unfolding first_condition_given_breach
+none_held breaks [] m s h = refl
+none_held breaks (c ∷ cs) m s h =
+    ap (λ (b : Bool). cond b (Some 0) (option_map suc (first_condition_given_breach breaks cs m s))) (h 0 c refl (omega arith))
+    ∙ ap (option_map suc) (none_held breaks cs m s (λ k other at l. h (suc k) other at (omega arith)))

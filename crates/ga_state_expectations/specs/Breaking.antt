@@ -1,4 +1,4 @@
--- Which event of a session broke an expectation: the oldest in the history that goes against it (docs/REFERENCE.md, "Conditions" and "Expectations in a
+-- Which event of a session broke an expectation: the oldest in the history that violates it (docs/REFERENCE.md, "Conditions" and "Expectations in a
 -- session"; this project's own).
 use Rattle.std.specs.Prelude.{ℕ, zero, suc, ◌+◌, ◌==◌, max, Bool, true, false, if◌then◌else◌, List, [], ◌∷◌, length, Option, Some, None, option_map}
 use Rattle.std.specs.List.{list_any}
@@ -20,7 +20,7 @@ use Rattle.ga_state_expectations.specs.declared.source.Expectation.TheVariants.{
 use Rattle.ga_state_expectations.specs.declared.source.LineExpectation.{LineExpectation}
 use Rattle.ga_state_expectations.specs.Violations.{is_unexpected_transfer}
 
--- ---- the oldest event that goes against an expectation, by its place
+-- ---- the oldest event that violates an expectation, by its place
 
 -- conditions that should never hold; that a node is stuck is seen from no one event
 abbrev pub oldest_event_of_never_condition : StateCondition → MachineState → Option ℕ
@@ -67,18 +67,26 @@ breaks_expectation expectation s = is_last_place (oldest_violation expectation s
 abbrev pub breaks_one_expectation : List LineExpectation → MachineState → Bool
 breaks_one_expectation expectations s = list_any (λ one. breaks_expectation one.expectation s) expectations
 
+-- the line of the first that it broke
+abbrev pub line_broken_by_newest_event : List LineExpectation → MachineState → Option ℕ
+line_broken_by_newest_event [] s = None
+line_broken_by_newest_event (one ∷ others) s = if breaks_expectation one.expectation s then Some one.line else line_broken_by_newest_event others s
+
 -- ---- conditions, where these expectations are known
 
--- the condition holds after the newest event
-abbrev pub condition_holds_expecting : List LineExpectation → Condition → MadeEvent → MachineState → Bool
-condition_holds_expecting expectations condition.Broken told s = breaks_one_expectation expectations s
-condition_holds_expecting expectations until told s = holds_after_made_event until told s
+-- the condition holds after the newest event, which broke an expectation or none
+abbrev pub condition_holds_given_breach : Bool → Condition → MadeEvent → MachineState → Bool
+condition_holds_given_breach breaks condition.Broken told s = breaks
+condition_holds_given_breach breaks until told s = holds_after_made_event until told s
 
 -- the place of the first that does
-unfoldable pub first_condition_expecting : List LineExpectation → List Condition → MadeEvent → MachineState → Option ℕ
-first_condition_expecting expectations [] told s = None
-first_condition_expecting expectations (until ∷ others) told s =
-    if condition_holds_expecting expectations until told s then Some 0 else option_map suc (first_condition_expecting expectations others told s)
+unfoldable pub first_condition_given_breach : Bool → List Condition → MadeEvent → MachineState → Option ℕ
+first_condition_given_breach breaks [] told s = None
+first_condition_given_breach breaks (until ∷ others) told s =
+    if condition_holds_given_breach breaks until told s then Some 0 else option_map suc (first_condition_given_breach breaks others told s)
+
+abbrev pub first_condition_expecting : List LineExpectation → List Condition → MadeEvent → MachineState → Option ℕ
+first_condition_expecting expectations until told s = first_condition_given_breach (breaks_one_expectation expectations s) until told s
 
 -- `broken` is among the conditions
 abbrev pub is_broken_asked : Condition → Bool

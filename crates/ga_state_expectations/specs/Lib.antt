@@ -1,10 +1,12 @@
 pub mod Breaking
 pub mod Expectations
 pub mod Faults
+pub mod Knowledge
 pub mod Lines
 pub mod Spelling
 pub mod Observations
 pub mod Recurrent
+pub mod Runs
 pub mod Sources
 pub mod Statuses
 pub mod Unmet

@@ -1,7 +1,6 @@
--- How an expectation stands in a session: over its history and the chip now (docs/REFERENCE.md, "Exploring"; this project's own). It is broken or held only if
+-- The status of an expectation in a session: over its history and the chip now (docs/REFERENCE.md, "Exploring"; this project's own). It is broken or held only if
 -- nothing that may still come in this session changes this. What is expected of the whole program, one order can't show.
-use Rattle.std.specs.Prelude.{ℕ, ◌+◌, nat_lt, Bool, true, false, if◌then◌else◌, List, [], ◌∷◌, length, Option, Some, None}
-use Rattle.ga_node.specs.Record.{NodeRecord}
+use Rattle.std.specs.Prelude.{ℕ, ◌+◌, nat_lt, Bool, if◌then◌else◌, List, [], ◌∷◌, length, Option, Some, None}
 use Rattle.ga_grid.specs.Chip.{node_record_at}
 use Rattle.ga_grid.specs.declared.node_id.NodeId.{NodeId}
 use Rattle.ga_event.specs.Told.{made_event_at_place}
@@ -78,7 +77,7 @@ first_link_fault expected before [] = None
 first_link_fault expected before (sent ∷ others) =
     if is_unexpected_word expected before sent.word then Some (before, fault_of_unexpected_word expected before sent.word) else first_link_fault expected (before + 1) others
 
--- so many words came, and each is allowed
+-- this number of words came, and each is allowed
 abbrev pub link_status_without_fault : LinkExpectation → Bool → ℕ → ExpectationStatus
 link_status_without_fault expected is_quiet words =
     if nat_lt words (length expected.words.items) then (if is_quiet then Broken (by.OverLink words MissingWord) else Pending)

@@ -1,4 +1,4 @@
--- Whether an event goes against an expectation, in one session: from its history and the chip after the event (docs/REFERENCE.md, "Expectations in a session";
+-- Whether an event violates an expectation, in one session: from its history and the chip after the event (docs/REFERENCE.md, "Expectations in a session";
 -- this project's own).
 use Rattle.std.specs.Prelude.{◌≡◌, ℕ, ◌+◌, ◌-◌, ◌<◌, ◌==◌, ◌&&◌, Bool, true, false, not, List, length, slice_get, Option, Some, None}
 use Rattle.std.specs.List.{list_any}
@@ -41,8 +41,8 @@ never_condition_holds (NodeIsStuck node) told s = false
 abbrev pub one_never_condition_holds : List StateCondition → MadeEvent → MachineState → Bool
 one_never_condition_holds conditions told s = list_any (λ condition. never_condition_holds condition told s) conditions
 
--- The event goes against the expectation: it transfers a word over the link that isn't allowed, or a condition that should never hold, holds after it. No
--- event goes against what is expected of a node at each end, or of the whole program.
+-- The event violates the expectation: it transfers a word over the link that isn't allowed, or a condition that should never hold, holds after it. No
+-- event violates what is expected of a node at each end, or of the whole program.
 abbrev pub violates_expectation : Expectation → MadeEvent → MachineState → Bool
 violates_expectation (NodeAtEveryEnd expected) told s = false
 violates_expectation (Never conditions) told s = one_never_condition_holds conditions.items told s
@@ -58,7 +58,7 @@ violates_as_optional_event expectation (Some told) s = violates_expectation expe
 abbrev pub is_violated_at : Expectation → MachineState → ℕ → Bool
 is_violated_at expectation s place = violates_as_optional_event expectation (made_event_at_place (machine_events_with_outcomes s) place) (earlier_state s (place + 1))
 
--- The event at a place is the oldest that goes against the expectation.
+-- The event at a place is the oldest that violates the expectation.
 pub record IsOldestViolation (expectation : Expectation) (s : MachineState) (place : ℕ) : Type 0 where
   pub within : place < length s.kept
   pub here : is_violated_at expectation s place ≡ true

@@ -1,22 +1,21 @@
 //! Runs that end at an event which breaks an expectation.
 
-ghost use Rattle.std.specs.Prelude.{◌≡◌, ◌≤◌, ◌+◌, ℕ, false, length, slice_index_or, IfOk, OnErr};
-ghost use Rattle.std.specs.List.{list_any};
-ghost use Rattle.ga_scheduler.specs.Words.{transfers_over_link_by_event};
+ghost use Rattle.std.specs.Prelude.{◌≡◌, ◌≤◌, length, IfOk, OnErr};
 ghost use Rattle.ga_scheduler.specs.Running.{scheduled_machine, run_after_events, CanMakeNextEvents};
-ghost use Rattle.ga_scheduler.specs.Tested.{HasTestedRunEnded};
 ghost use Rattle.ga_scheduler.specs.Backward.{machine_after_back_until, event_count_removed_by_back_until};
-ghost use Rattle.ga_state_expectations.specs.Breaking.{first_condition_expecting, is_broken_asked, has_broken_among, newest_event_expecting};
-ghost use Rattle.ga_state_expectations.specs.inner.{expectation_link_words, AreLinkWordCounts, WereLinkWordCounts, event_link_words};
+ghost use Rattle.ga_state_expectations.specs.Breaking.{is_broken_asked, has_broken_among, newest_event_expecting};
+ghost use Rattle.ga_state_expectations.specs.Runs.{HasExpectingRunEnded};
+ghost use Rattle.ga_state_expectations.specs.inner.{run_end_of_watched_run};
 
 use crate::breaking::{later_place, newest_breach};
-use crate::source::{Expectation, LineExpectation};
-use crate::testing::first_condition_expecting;
+use crate::knowledge::ExpectationKnowledge;
+use crate::source::LineExpectation;
+use crate::testing::first_condition_given_breach;
 use ga_grid::NodeId;
 use ga_lab::{Lab, MadeEvent};
 use ga_scheduler::{
-    Condition, RunResult, RunTest, Schedule, back_to_place, count_transfers, count_transfers_after,
-    find_newest_matching_event, run_tested,
+    Condition, RunEnd, RunResult, Schedule, StopCondition, WatchedRunEnd, back_to_place,
+    find_newest_matching_event, run_watched,
 };
 use std::alloc::{AllocError, Global};
 
@@ -34,107 +33,59 @@ pub fn has_broken_among(until: &[Condition]) -> bool
     until.iter().any(|condition| is_broken_asked(condition))
 }
 
-/// The number of words that passed over the expectation's link.
-fn count_link_words(lab: &Lab, expectation: &Expectation) -> u32
-    ensures { result ≡ expectation_link_words expectation.now lab.now }
-{
-    match expectation {
-        Expectation::NodeAtEveryEnd(_) => 0,
-        Expectation::Never(_) => 0,
-        Expectation::LinkPassesWords(expected) => count_transfers(lab, expected.from, expected.to),
-        Expectation::EveryOrderEnds => 0,
-        Expectation::OneEnd => 0,
-    }
-}
-
-/// The number of words that passed over the link of each expectation.
-fn count_all_link_words(
-    alloc: Global,
-    lab: &Lab,
-    expectations: &[LineExpectation],
-) -> Result<Vec<u32>, AllocError>
-    ensures size { IfOk result (λ words. length words.items ≡ length expectations.now) }
-    ensures words { IfOk result (λ words. AreLinkWordCounts expectations.now lab.now words.items) }
-{
-    let mut words = Vec::new(alloc);
-    'lines: for one in expectations {
-        words.push(count_link_words(lab, &one.expectation))?;
-    }
-    Ok(words)
-}
-
-/// The number of words that passed over the expectation's link right after the newest event, given how many had before.
-fn link_words_after(words: u32, expectation: &Expectation, made: &MadeEvent, lab: &Lab) -> u32
-    requires { expectation_link_words expectation.now lab.now ≡ words + event_link_words expectation.now made.now }
-    ensures { result ≡ expectation_link_words expectation.now lab.now }
-{
-    match expectation {
-        Expectation::NodeAtEveryEnd(_) => words,
-        Expectation::Never(_) => words,
-        Expectation::LinkPassesWords(expected) => {
-            count_transfers_after(lab, words, made, expected.from, expected.to)
-        }
-        Expectation::EveryOrderEnds => words,
-        Expectation::OneEnd => words,
-    }
-}
-
-/// Counts the word that the newest event carried.
-fn count_event(words: &mut [u32], expectations: &[LineExpectation], made: &MadeEvent, lab: &Lab)
-    requires size { length words.old ≡ length expectations.now }
-    requires words { WereLinkWordCounts expectations.now lab.now made.now words.old }
-    ensures size { length words.new ≡ length expectations.now }
-    ensures words { AreLinkWordCounts expectations.now lab.now words.new }
-{
-    if let MadeEvent::Own { .. } = made {
-        return;
-    }
-    'lines: for (place, one) in expectations.iter().enumerate() {
-        words[place] = link_words_after(words[place], &one.expectation, made, lab);
-    }
+/// Conditions where expectations are known, and which of them is the first that held after the newest event.
+#[derive(Clone, Copy)]
+struct AwaitedConditions<'e> {
+    until: &'e [Condition],
+    expectations: &'e [LineExpectation],
+    held: Option<u8>,
 }
 
 /// Tests conditions where expectations are known.
 #[derive(Drop)]
 struct ExpectationTest<'e> {
-    until: &'e [Condition],
-    expectations: &'e [LineExpectation],
-    // The number of words that passed over the link of each expectation.
-    words: Vec<u32>,
-    // Of each expectation, whether it is known to be broken.
-    broken: Vec<bool>,
-    ghost few: { length until.now ≤ 8 },
+    awaited: AwaitedConditions<'e>,
+    known: ExpectationKnowledge,
+    ghost few: { length awaited.until.now ≤ 8 },
 }
 
-impl RunTest for ExpectationTest<'_> {
-    ghost use Rattle.std.specs.Prelude.{◌≡◌, length};
+impl<'e> StopCondition for ExpectationTest<'e> {
+    ghost use Rattle.std.specs.Prelude.{is_some};
     ghost use Rattle.ga_state_expectations.specs.Breaking.{first_condition_expecting};
-    ghost use Rattle.ga_state_expectations.specs.inner.{AreLinkWordCounts, AreKnownBroken};
+    ghost use Rattle.ga_state_expectations.specs.Knowledge.{IsExpectationKnowledge};
 
-    ghost answer = { λ test told s. first_condition_expecting test.expectations.now test.until.now told s };
+    type State = AwaitedConditions<'e>;
 
-    ghost remembers = { λ test s. (length test.words.items ≡ length test.expectations.now) × (length test.broken.items ≡ length test.expectations.now)
-        × AreLinkWordCounts test.expectations.now s test.words.items × AreKnownBroken test.expectations.now s test.broken.items };
+    ghost state = { λ test. test.awaited };
 
-    fn test(&mut self, made: &MadeEvent, lab: &Lab) -> Option<u8> {
-        count_event(self.words.as_mut_slice(), self.expectations, made, lab);
-        first_condition_expecting(
-            self.until,
-            self.expectations,
-            self.words.as_slice(),
-            self.broken.as_mut_slice(),
-            made,
-            lab,
-        )
+    ghost ends = { λ awaited told s. is_some (first_condition_expecting awaited.expectations.now awaited.until.now told s) };
+
+    ghost seen = { λ awaited told s. record awaited { held = first_condition_expecting awaited.expectations.now awaited.until.now told s } };
+
+    ghost remembers = { λ test s. IsExpectationKnowledge test.awaited.expectations.now s test.known };
+
+    fn ends_run_after_event(&mut self, made: &MadeEvent, lab: &Lab) -> bool {
+        let breaks = self
+            .known
+            .breaks_one_expectation(self.awaited.expectations, made, lab);
+        self.awaited.held = first_condition_given_breach(self.awaited.until, breaks, made, lab);
+        self.awaited.held.is_some()
     }
 }
 
-/// A flag for each expectation: none is known to be broken.
-fn none_broken(alloc: Global, expectations: &[LineExpectation]) -> Result<Vec<bool>, AllocError>
-    ensures flags { IfOk result (λ broken. length broken.items ≡ length expectations.now) }
-    ensures none { IfOk result (λ broken. (k : ℕ) → slice_index_or broken.items k false ≡ false) }
+/// Why a run ended, by how it did with a watch and the first condition that held after its newest event.
+fn run_end_of_watched_run(end: WatchedRunEnd, held: Option<u8>) -> RunEnd
+    ensures { result ≡ run_end_of_watched_run held end }
 {
-    Ok(vec![in alloc; false; expectations.len()]?)
+    match end {
+        WatchedRunEnd::EndedByWatch(made) => RunEnd::ConditionHeld {
+            made,
+            which: held.unwrap_or(0),
+        },
+        WatchedRunEnd::Made => RunEnd::MadeRequestedEvents,
+        WatchedRunEnd::Quiet => RunEnd::Quiet,
+        WatchedRunEnd::Refused(why) => RunEnd::Refused(why),
+    }
 }
 
 /// Makes events in the order of a schedule: at most `most`, up to the first after which one of the conditions holds, where these expectations are known,
@@ -156,18 +107,22 @@ pub fn run_expecting(
     ensures state { IfOk result (λ ran. scheduled_machine lab.new ran.schedule ≡ run_after_events (scheduled_machine lab.old schedule) ran.events) }
     ensures made { IfOk result (λ ran. CanMakeNextEvents (scheduled_machine lab.old schedule) ran.events) }
     ensures most { IfOk result (λ ran. ran.events ≤ most) }
-    ensures end { IfOk result (λ ran. HasTestedRunEnded (first_condition_expecting expectations.now until.now) (scheduled_machine lab.old schedule) most ran.events ran.end) }
+    ensures end { IfOk result (λ ran. HasExpectingRunEnded expectations.now until.now (scheduled_machine lab.old schedule) most ran.events ran.end) }
     ensures same { OnErr result (lab.new ≡ lab.old) }
 {
-    let words = count_all_link_words(alloc, lab, expectations)?;
-    let broken = none_broken(alloc, expectations)?;
-    let mut test = ExpectationTest {
+    let known = ExpectationKnowledge::at_begin_of_run(alloc, lab, expectations)?;
+    let awaited = AwaitedConditions {
         until,
         expectations,
-        words,
-        broken,
+        held: None,
     };
-    Ok(run_tested(lab, schedule, most, &mut test))
+    let mut test = ExpectationTest { awaited, known };
+    let run = run_watched(lab, schedule, None, most, &mut test);
+    Ok(RunResult {
+        events: run.events,
+        end: run_end_of_watched_run(run.end, test.awaited.held),
+        schedule: run.schedule,
+    })
 }
 
 /// Undoes the history from the newest event on, up to the newest one after which one of the conditions held or that broke one of the expectations, and that

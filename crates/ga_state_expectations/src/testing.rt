@@ -2,8 +2,9 @@
 
 ghost use Rattle.std.specs.Prelude.{◌≡◌, ◌≤◌, length, true, false, IsSome};
 ghost use Rattle.ga_scheduler.specs.Watched.{IsReportOfNewestEvent};
-ghost use Rattle.ga_state_expectations.specs.Breaking.{oldest_violation, breaks_expectation, breaks_one_expectation, condition_holds_expecting, first_condition_expecting};
-ghost use Rattle.ga_state_expectations.specs.inner.{expectation_link_words, AreLinkWordCounts, AreKnownBroken, IsBrokenEarlier, AreBrokenEarlier};
+ghost use Rattle.ga_state_expectations.specs.Breaking.{oldest_violation, breaks_expectation, breaks_one_expectation, line_broken_by_newest_event, condition_holds_given_breach, first_condition_given_breach};
+ghost use Rattle.ga_state_expectations.specs.Knowledge.{expectation_link_words, AreLinkWordCounts, AreKnownBroken};
+ghost use Rattle.ga_state_expectations.specs.inner.{IsBrokenEarlier, AreBrokenEarlier};
 
 use crate::breaking::{is_last_place, oldest_violation};
 use crate::source::{Expectation, LineExpectation};
@@ -16,6 +17,18 @@ fn breaks_expectation(expectation: &Expectation, lab: &Lab) -> bool
     ensures { result ≡ breaks_expectation expectation.now lab.now }
 {
     is_last_place(lab, oldest_violation(lab, expectation))
+}
+
+/// The line of the first expectation that the newest event broke. The time is linear in the number of events, for each expectation.
+pub fn line_broken_by_newest_event(lab: &Lab, expectations: &[LineExpectation]) -> Option<u32>
+    ensures { result ≡ line_broken_by_newest_event expectations.now lab.now }
+{
+    'lines: for one in expectations {
+        if breaks_expectation(&one.expectation, lab) {
+            return Some(one.line);
+        }
+    }
+    None
 }
 
 /// Whether an event of the history violates the expectation, as far as that is known; and whether the newest event broke it. If it is known that an earlier
@@ -45,7 +58,7 @@ fn test_expectation(
 
 /// Whether the newest event broke one of the expectations, with the number of words that passed over the link of each. Those that it violates are
 /// flagged, so that the history is searched once for each.
-fn breaks_one_expectation(
+pub(crate) fn breaks_one_expectation(
     expectations: &[LineExpectation],
     words: &[u32],
     broken: &mut [bool],
@@ -78,52 +91,35 @@ fn breaks_one_expectation(
     false
 }
 
-/// Whether the condition holds right after the newest event.
-fn condition_holds_expecting(
+/// Whether the condition holds right after the newest event, which broke an expectation or none.
+fn condition_holds_given_breach(
     condition: &Condition,
-    expectations: &[LineExpectation],
-    words: &[u32],
-    broken: &mut [bool],
+    breaks: bool,
     made: &MadeEvent,
     lab: &Lab,
 ) -> bool
-    requires newest { IsReportOfNewestEvent lab.now made.now }
-    requires size { length words.now ≡ length expectations.now }
-    requires flags { length broken.old ≡ length expectations.now }
-    requires words { AreLinkWordCounts expectations.now lab.now words.now }
-    requires earlier { AreBrokenEarlier expectations.now lab.now broken.old }
-    ensures answer { result ≡ condition_holds_expecting expectations.now condition.now made.now lab.now }
-    ensures flags { length broken.new ≡ length expectations.now }
-    ensures known { AreKnownBroken expectations.now lab.now broken.new }
-    ensures earlier { result ≡ false → AreBrokenEarlier expectations.now lab.now broken.new }
+    requires { IsReportOfNewestEvent lab.now made.now }
+    ensures { result ≡ condition_holds_given_breach breaks condition.now made.now lab.now }
 {
     match condition {
-        Condition::Broken => breaks_one_expectation(expectations, words, broken, made, lab),
+        Condition::Broken => breaks,
         _ => condition.holds_after_newest_event(made, lab),
     }
 }
 
-/// The place of the first of the conditions that holds right after the newest event.
-pub(crate) fn first_condition_expecting(
+/// The place of the first of the conditions that holds right after the newest event, which broke an expectation or none.
+pub(crate) fn first_condition_given_breach(
     until: &[Condition],
-    expectations: &[LineExpectation],
-    words: &[u32],
-    broken: &mut [bool],
+    breaks: bool,
     made: &MadeEvent,
     lab: &Lab,
 ) -> Option<u8>
     requires few { length until.now ≤ 8 }
     requires newest { IsReportOfNewestEvent lab.now made.now }
-    requires size { length words.now ≡ length expectations.now }
-    requires flags { length broken.old ≡ length expectations.now }
-    requires words { AreLinkWordCounts expectations.now lab.now words.now }
-    requires earlier { AreBrokenEarlier expectations.now lab.now broken.old }
-    ensures answer { result ≡ first_condition_expecting expectations.now until.now made.now lab.now }
-    ensures flags { length broken.new ≡ length expectations.now }
-    ensures known { AreKnownBroken expectations.now lab.now broken.new }
+    ensures { result ≡ first_condition_given_breach breaks until.now made.now lab.now }
 {
     'conditions: for (place, condition) in until.iter().enumerate() {
-        if condition_holds_expecting(condition, expectations, words, broken, made, lab) {
+        if condition_holds_given_breach(condition, breaks, made, lab) {
             return Some(place as u8);
         }
     }

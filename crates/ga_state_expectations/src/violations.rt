@@ -3,7 +3,7 @@
 ghost use Rattle.std.specs.Prelude.{◌≡◌};
 ghost use Rattle.ga_scheduler.specs.Watched.{IsReportOfNewestEvent};
 ghost use Rattle.ga_state_expectations.specs.Violations.{is_unexpected_word, is_unexpected_transfer, never_condition_holds, one_never_condition_holds, violates_expectation};
-ghost use Rattle.ga_state_expectations.specs.inner.{expectation_link_words};
+ghost use Rattle.ga_state_expectations.specs.Knowledge.{expectation_link_words};
 
 use crate::source::Expectation;
 use ga_lab::{Lab, MadeEvent};

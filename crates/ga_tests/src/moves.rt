@@ -11,6 +11,8 @@ use ga_debug_info::{DebugInfo, SlotWord};
 use ga_grid::NodeId;
 use ga_lab::Lab;
 use ga_scheduler::{Comparison, NodeValue, Schedule, ValueTest};
+use ga_state_expectations::ExpectationKnowledge;
+use std::alloc::Global;
 use std::process::Abort;
 use std::test::Fail;
 
@@ -21,6 +23,7 @@ const STORES: &[u8] = b"node 000\n: main\n  9 a! 7 ! main ;\n";
 fn each_hit<'b>(lab: &Lab, breakpoints: &'b [Breakpoint]) -> HaltConditions<'b> {
     HaltConditions {
         breakpoints,
+        expectations: &[],
         stops: true,
         tally: count_hits_in_history(lab, &[]),
     }
@@ -40,21 +43,32 @@ fn watching(watched: WatchedAction) -> Breakpoint {
 const SECOND_DUP: WatchedAction = WatchedAction::ArrivesAtSlot(SlotAddress { cell: 5, slot: 2 });
 
 /// A move of node 000 by lines, with no breakpoint, ends after this number of events.
-fn moves(rt: &impl Abort, lab: &mut Lab, notes: &DebugInfo, mut by: StepMove, wanted: u64) {
+fn moves(
+    rt: &impl Abort,
+    alloc: Global,
+    lab: &mut Lab,
+    notes: &DebugInfo,
+    mut by: StepMove,
+    wanted: u64,
+) {
     let halts = each_hit(lab, &[]);
+    let Ok(known) = ExpectationKnowledge::at_begin_of_run(alloc, lab, halts.expectations) else {
+        panic!(rt; "memory for no expectation");
+    };
     let went = make_step_slice(
         lab,
         Schedule::round_robin_schedule(),
         &mut by,
         notes,
         halts,
+        known,
         100,
     );
     assert_equal_values(rt, &went.events, &wanted);
-    assert_equal_values(rt, &is_moved(went), &true);
+    assert_equal_values(rt, &is_moved(&went), &true);
 }
 
-fn is_moved(went: MoveResult) -> bool {
+fn is_moved(went: &MoveResult) -> bool {
     match went.halt {
         HaltReason::CompletedMove(_) => true,
         _ => false,
@@ -62,7 +76,7 @@ fn is_moved(went: MoveResult) -> bool {
 }
 
 /// The place of the breakpoint by which a move ended.
-fn hit_by(went: MoveResult) -> Option<usize> {
+fn hit_by(went: &MoveResult) -> Option<usize> {
     match went.halt {
         HaltReason::HitBreakpoint { which, .. } => Some(which),
         _ => None,
@@ -76,18 +90,18 @@ fn lines_are_stepped_in(rt: HostRuntime) -> Result<(), Fail> {
     // To line 6 by the call, to 9 by the next, to 10 by `dup`, to 7 by the return, and round to line 3.
     for wanted in [3, 2, 3, 4] {
         let line = StepMove::step_in(&lab, node, Granularity::Line);
-        moves(&rt, &mut lab, &notes, line, wanted);
+        moves(&rt, rt.alloc(), &mut lab, &notes, line, wanted);
     }
     // The node is taken back over the call of `quad`.
     assert_equal_values(&rt, &step_back_line(&mut lab, &notes, node), &9);
     let over = StepMove::next(&lab, node, Granularity::Line);
-    moves(&rt, &mut lab, &notes, over, 9);
+    moves(&rt, rt.alloc(), &mut lab, &notes, over, 9);
     let step = StepMove::step_in(&lab, node, Granularity::Instruction);
-    moves(&rt, &mut lab, &notes, step, 1);
+    moves(&rt, rt.alloc(), &mut lab, &notes, step, 1);
     // By `2*` and `;` back to `drop`, the rest of line 3, and to line 4.
     for wanted in [2, 2] {
         let out = StepMove::next(&lab, node, Granularity::Line);
-        moves(&rt, &mut lab, &notes, out, wanted);
+        moves(&rt, rt.alloc(), &mut lab, &notes, out, wanted);
     }
     Ok(())
 }
@@ -99,11 +113,11 @@ fn calls_are_stepped_out_of(rt: HostRuntime) -> Result<(), Fail> {
     assert_equal_values(&rt, &StepMove::step_out(&lab, node), &None);
     for wanted in [3, 2] {
         let line = StepMove::step_in(&lab, node, Granularity::Line);
-        moves(&rt, &mut lab, &notes, line, wanted);
+        moves(&rt, rt.alloc(), &mut lab, &notes, line, wanted);
     }
     match StepMove::step_out(&lab, node) {
         // `quad` comes back by its step 12.
-        Some(out) => moves(&rt, &mut lab, &notes, out, 7),
+        Some(out) => moves(&rt, rt.alloc(), &mut lab, &notes, out, 7),
         None => assert!(&rt; false),
     }
     Ok(())
@@ -119,12 +133,13 @@ fn slices_stop_at_a_breakpoint(rt: HostRuntime) -> Result<(), Fail> {
     assert_equal_values(&rt, &on_line.line, &10);
     let breakpoints = [on_line.breakpoint];
     let halts = each_hit(&lab, &breakpoints);
-    let slice = make_continue_slice(&mut lab, Schedule::greedy_schedule(), halts, 5);
+    let known = ExpectationKnowledge::at_begin_of_run(rt.alloc(), &lab, halts.expectations)?;
+    let slice = make_continue_slice(&mut lab, Schedule::greedy_schedule(), halts, known, 5);
     assert_equal_values(&rt, &slice.halt, &HaltReason::SliceEnded);
-    let hit = make_continue_slice(&mut lab, slice.schedule, halts, 100);
+    let hit = make_continue_slice(&mut lab, slice.schedule, halts, slice.known, 100);
     assert_equal_values(&rt, &hit.events, &3);
-    assert_equal_values(&rt, &hit_by(hit), &Some(0));
-    let again = make_continue_slice(&mut lab, hit.schedule, halts, 100);
+    assert_equal_values(&rt, &hit_by(&hit), &Some(0));
+    let again = make_continue_slice(&mut lab, hit.schedule, halts, hit.known, 100);
     assert_equal_values(&rt, &again.events, &18);
     Ok(())
 }
@@ -144,11 +159,12 @@ fn each_third_hit_is_stopped_at(rt: HostRuntime) -> Result<(), Fail> {
         ..watching(SECOND_DUP)
     }];
     let mut halts = each_hit(&lab, &third);
+    let known = ExpectationKnowledge::at_begin_of_run(rt.alloc(), &lab, halts.expectations)?;
     // The second `dup` is come to by event 8, and then by each 18th.
-    let hit = make_continue_slice(&mut lab, Schedule::greedy_schedule(), halts, 100);
+    let hit = make_continue_slice(&mut lab, Schedule::greedy_schedule(), halts, known, 100);
     assert_equal_values(&rt, &hit.events, &44);
     halts.tally = hit.tally;
-    let again = make_continue_slice(&mut lab, hit.schedule, halts, 100);
+    let again = make_continue_slice(&mut lab, hit.schedule, halts, hit.known, 100);
     assert_equal_values(&rt, &again.events, &54);
     assert_equal_values(&rt, &reverse_to_breakpoint(&mut lab, node, &third), &54);
     assert_equal_values(&rt, &count_hits_in_history(&lab, &third).counts[0], &3);
@@ -165,13 +181,14 @@ fn a_store_is_stopped_at(rt: HostRuntime) -> Result<(), Fail> {
     };
     let breakpoints = [watching(WatchedAction::WritesWatchedCell(9)), main];
     let halts = each_hit(&lab, &breakpoints);
+    let known = ExpectationKnowledge::at_begin_of_run(rt.alloc(), &lab, halts.expectations)?;
     // The node is at address 0 when loaded, and arrives there by its first fetch.
-    let first = make_continue_slice(&mut lab, Schedule::greedy_schedule(), halts, 100);
+    let first = make_continue_slice(&mut lab, Schedule::greedy_schedule(), halts, known, 100);
     assert_equal_values(&rt, &first.events, &1);
-    assert_equal_values(&rt, &hit_by(first), &Some(1));
-    let hit = make_continue_slice(&mut lab, first.schedule, halts, 100);
+    assert_equal_values(&rt, &hit_by(&first), &Some(1));
+    let hit = make_continue_slice(&mut lab, first.schedule, halts, first.known, 100);
     assert_equal_values(&rt, &hit.events, &6);
-    assert_equal_values(&rt, &hit_by(hit), &Some(0));
+    assert_equal_values(&rt, &hit_by(&hit), &Some(0));
     assert_equal_values(&rt, &lab.memory(node, 9).get(), &7);
     Ok(())
 }

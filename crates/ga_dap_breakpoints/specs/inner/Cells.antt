@@ -1,8 +1,7 @@
 -- The cells from which the nodes' words came, as far as they were looked back for (F18A Technology Reference DB001, instruction fetch): each is kept until its
 -- node may have taken another word. What is hit by them.
 use Rattle.ga_event.specs.declared.made.MadeEvent.TheVariants as made
-use Rattle.ga_scheduler.specs.declared.watched.WatchedRunEnd.TheVariants as the_end
-use Rattle.std.specs.Prelude.{ℕ, ◌+◌, ◌-◌, ◌==◌, Bool, ◌&&◌, ◌||◌, not, if◌then◌else◌, is_some, List, [], ◌∷◌, slice_set, slice_index_or, Option, Some, None}
+use Rattle.std.specs.Prelude.{ℕ, ◌+◌, ◌-◌, ◌==◌, Bool, ◌&&◌, not, if◌then◌else◌, List, [], ◌∷◌, slice_set, slice_index_or, Option, Some, None}
 use Rattle.std.specs.List.{slice_get}
 use Rattle.ga_node.specs.Record.{NodeRecord}
 use Rattle.ga_grid.specs.declared.node_id.NodeId.{NodeId}
@@ -19,13 +18,9 @@ use Rattle.ga_dap_breakpoints.specs.declared.back.WatchedAction.TheVariants.{Arr
 use Rattle.ga_dap_breakpoints.specs.declared.breakpoint.Breakpoint.{Breakpoint}
 use Rattle.ga_dap_breakpoints.specs.declared.hits.HitTally.{HitTally}
 use Rattle.ga_dap_breakpoints.specs.Back.{can_event_reach_slot, is_at_slot_address}
-use Rattle.ga_dap_breakpoints.specs.Breakpoints.{is_watched_event, tally_with_hit, is_move_ending_stop}
+use Rattle.ga_dap_breakpoints.specs.Breakpoints.{is_watched_event, tally_with_hit}
 use Rattle.ga_dap_breakpoints.specs.Conditions.{is_optional_value_test_passed}
 use Rattle.ga_dap_breakpoints.specs.inner.Words.{event_kind_keeps_instruction_word}
-use Rattle.ga_scheduler.specs.declared.watched.WatchedRunEnd.{WatchedRunEnd}
-use Rattle.ga_dap_breakpoints.specs.declared.halts.HaltMonitor.{HaltMonitor}
-use Rattle.ga_dap_breakpoints.specs.declared.going.HaltReason.{HaltReason}
-use Rattle.ga_dap_breakpoints.specs.declared.going.HaltReason.TheVariants.{HitBreakpoint, NodeStopped, CompletedMove, SliceEnded, Quiet, Refused}
 
 -- the cells of the nodes' words by the numbers of the nodes: known or not, and of a memory or not
 abbrev pub InstructionCellsByNode : Type 0
@@ -92,32 +87,3 @@ tally_after_event_by_cells breakpoints told s cells tally = tally_after_breakpoi
 
 abbrev pub instruction_cells_after_event : List Breakpoint → MadeEvent → MachineState → InstructionCellsByNode → InstructionCellsByNode
 instruction_cells_after_event breakpoints told s cells = instruction_cells_after_breakpoints told s breakpoints (instruction_cells_kept_after_event told cells)
-
-abbrev pub ends_move_early_by_cells : List Breakpoint → InstructionCellsByNode → HitTally → Bool → Option NodeId → MadeEvent → MachineState → Bool
-ends_move_early_by_cells breakpoints cells tally stops node told s = is_some (tally_after_event_by_cells breakpoints told s cells tally).hit || is_move_ending_stop stops node told
-
--- ---- why a move ended, by how its run did
-
--- why a move ended by this event
-abbrev pub halt_reason_after_event : Bool → MadeEvent → Option ℕ → HaltReason
-halt_reason_after_event stopping told (Some which) = HitBreakpoint told which
-halt_reason_after_event stopping told None = if stopping then NodeStopped told else CompletedMove told
-
-abbrev pub halt_reason_of_event : Option ℕ → Bool → Option NodeId → MadeEvent → HaltReason
-halt_reason_of_event hit stops node told = halt_reason_after_event (is_move_ending_stop stops node told) told hit
-
--- why a move ended by this end of its run, where the newest event hit the breakpoint at this place
-abbrev pub halt_reason_of_run : Option ℕ → Bool → Option NodeId → WatchedRunEnd → HaltReason
-halt_reason_of_run hit stops first (the_end.EndedByWatch told) = halt_reason_of_event hit stops first told
-halt_reason_of_run hit stops first the_end.Made = SliceEnded
-halt_reason_of_run hit stops first the_end.Quiet = Quiet
-halt_reason_of_run hit stops first (the_end.Refused why) = Refused why
-
--- ---- what is watched, after an event
-
-abbrev pub halt_monitor_after_event : HaltMonitor → MadeEvent → MachineState → HaltMonitor
-halt_monitor_after_event w told s =
-    record w {
-      halts = record w.halts { tally = tally_after_event_by_cells w.halts.breakpoints.now told s w.cells w.halts.tally };
-      cells = instruction_cells_after_event w.halts.breakpoints.now told s w.cells;
-    }

@@ -34,6 +34,7 @@ returns-in_ok-tell_launched-in-Ok c =
             placed = c.new-settings.ensures.placed;
             stops = c.new-settings.ensures.stops;
             stuck = c.new-settings.ensures.stuck;
+            broken = c.new-settings.ensures.broken;
             number = c.new-settings.ensures.next;
           };
           order = refl;

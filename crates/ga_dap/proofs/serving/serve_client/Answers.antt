@@ -1,7 +1,9 @@
-use Rattle.std.proofs.Common.{◌∙◌, ℕ, suc, List, [], ◌++◌, Some, refl, sym, ap, subst, inl}
+use Rattle.std.proofs.Common.{◌∙◌, ℕ, suc, List, [], ◌++◌, Some, None, refl, sym, ap, subst, inl}
 use Rattle.std.proofs.lemmas.List.{append-nil}
 use Rattle.ga_dap_protocol.specs.Sent.{OutboxContent}
 use Rattle.ga_dap.specs.Client.{ServesIterations, initial_server_state}
+use Rattle.ga_dap.specs.declared.session.Session.{Session}
+use Rattle.ga_dap.specs.inner.Knowing.{AreExpectationsOfSessionKnown}
 use Rattle.ga_dap.specs.inner.Turning.{server_state_of_parts}
 use Rattle.ga_dap.proofs.Serves.{begins_so, serves_on, ends_so, pends, all_sent, written_all}
 use Rattle.ga_dap.proofs.serving.serve_client.Goals as goal
@@ -9,6 +11,7 @@ use Rattle.ga_dap.proofs.serving.serve_client.Goals as goal
 pub serving-init : goal.serving-init
 serving-init g c = record {
   sent = ap (λ (z : OutboxContent). z.bytes) c.new-out.ensures;
+  known = subst (λ (z : Session). AreExpectationsOfSessionKnown z None) (sym c.new-session.ensures) tt;
   serves = λ left before known held. (
     left,
     [],
@@ -22,9 +25,10 @@ serving-init g c = record {
 pub serving-preserved : goal.serving-preserved
 serving-preserved g c = record {
   sent = ap (λ (z : OutboxContent). z.bytes) c.in-Ok.ensures.sent;
+  known = c.in-On.ensures.known;
   serves = λ left before known held.
       let inv = c.serving.invariant.serves left before known held in
-      let made = c.in-On.ensures inv.0 inv.3 in
+      let made = c.in-On.ensures.turn inv.0 inv.3 in
       let told = c.in-Ok.ensures.said before (inv.1 ++ c.turn.new.out.bytes) (pends _ before inv.1 c.turn.new.out.bytes inv.4) in
       let more = serves_on g.S.ProgramFiles.gives g.A.PendingInput.tells (initial_server_state c.args.sources.now c.args.arrivals.now left) inv.2 inv.1 _ c.turn.new.out.bytes _ inv.5 c.if-session.false made.2 in (
         made.0,
@@ -60,7 +64,7 @@ returns-then-session g c = λ left before known held.
 pub returns-in-End : goal.returns-in-End
 returns-in-End g c = λ left before known held.
     let inv = c.serving.invariant.serves left before known held in
-    let made = c.in-End.ensures inv.0 inv.3 in (
+    let made = c.in-End.ensures.turn inv.0 inv.3 in (
       made.0,
       inv.1,
       made.1,
@@ -80,7 +84,7 @@ returns-in-End g c = λ left before known held.
 pub returns-in-Err : goal.returns-in-Err
 returns-in-Err g c = λ left before known held.
     let inv = c.serving.invariant.serves left before known held in
-    let made = c.in-On.ensures inv.0 inv.3 in
+    let made = c.in-On.ensures.turn inv.0 inv.3 in
     let cut = c.in-Err.ensures.said before (inv.1 ++ c.turn.new.out.bytes) (pends _ before inv.1 c.turn.new.out.bytes inv.4) in
     let more = serves_on g.S.ProgramFiles.gives g.A.PendingInput.tells (initial_server_state c.args.sources.now c.args.arrivals.now left) inv.2 inv.1 _ c.turn.new.out.bytes _ inv.5 c.if-session.false made.2 in (
       made.0,

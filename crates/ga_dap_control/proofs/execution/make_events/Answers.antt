@@ -1,17 +1,11 @@
-use Rattle.std.proofs.Common.{◌∙◌, ap}
-use Rattle.ga_dap_control.specs.declared.execution.Execution.{Execution}
-use Rattle.ga_dap_control.specs.Slices.{execution_after_stop}
+use Rattle.std.proofs.Common.{List, inl, sym, subst}
+use Rattle.ga_state_expectations.specs.declared.source.LineExpectation.{LineExpectation}
+use Rattle.ga_dap_control.specs.Watched.{AreWatchedExpectations}
 use Rattle.ga_dap_control.proofs.execution.make_events.Goals as goal
 
-pub returns : goal.returns
-returns c = (
-  c.advance-went.result,
-  c.advance-went.new.execution,
-  c.stuck_of-now.result,
-  c.newly_stuck-stuck.result,
-  c.advance-went.ensures,
-  c.stuck_of-now.ensures,
-  c.newly_stuck-stuck.ensures,
-  c.slice_stop_reason-stop.ensures,
-  c.end_for.ensures ∙ ap (λ (z : Execution). execution_after_stop z c.slice_stop_reason-stop.result) c.keep_reported.ensures,
+pub returns-in-Ok-clause-slice : goal.returns-in-Ok-clause-slice
+returns-in-Ok-clause-slice c = inl (
+  c.as_slice.result.now,
+  subst (λ (z : List LineExpectation). AreWatchedExpectations c.args.program.now c.args.settings.now z) (sym c.as_slice.ensures.value) c.in-Ok.ensures.expectations,
+  c.make_events_expecting-stop.ensures.slice,
 )

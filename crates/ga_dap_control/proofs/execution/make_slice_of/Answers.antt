@@ -3,8 +3,8 @@ use Rattle.ga_grid.specs.declared.node_id.NodeId.{NodeId}
 use Rattle.ga_dap_control.specs.Slices.{MakesEventsUnlessDeadlocked}
 use Rattle.ga_dap_control.proofs.execution.make_slice_of.Goals as goal
 
-pub returns-in-Some : goal.returns-in-Some
-returns-in-Some c =
+pub returns-in-Some-clause-slice : goal.returns-in-Some-clause-slice
+returns-in-Some-clause-slice c =
     let told = c.in-Some.ensures in (
       c.stuck_of-before.result,
       told.0,
@@ -14,13 +14,13 @@ returns-in-Some c =
           (Some c.report.result)) told.2 (refl, c.report.ensures.next, ap Some c.report.ensures.reason),
     )
 
-pub returns-in-None : goal.returns-in-None
-returns-in-None c =
+pub returns-in-None-clause-slice : goal.returns-in-None-clause-slice
+returns-in-None-clause-slice c =
     let told = c.in-None.ensures in (
       c.stuck_of-before.result,
       told.0,
       c.stuck_of-before.ensures,
       told.1,
       subst (λ (z : Option NodeId). MakesEventsUnlessDeadlocked z c.args.goal c.stuck_of-before.result c.args.program.now c.args.settings.now c.args.execution.now c.make_events.new.program
-          c.make_events.new.execution c.make_events.result) told.2 c.make_events.ensures,
+          c.make_events.new.execution c.make_events.result) told.2 c.make_events.ensures.slice,
     )

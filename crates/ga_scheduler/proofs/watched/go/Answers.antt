@@ -20,3 +20,6 @@ returns-in-Ok-clause-moved c =
 
 pub returns-in-Err-clause-halted : goal.returns-in-Err-clause-halted
 returns-in-Err-clause-halted c = (c.in-Some.node, sym c.in-Some.ensures.chosen, c.in-Err.ensures.refused)
+
+pub returns-in-Ok-clause-step : goal.returns-in-Ok-clause-step
+returns-in-Ok-clause-step c = record { node = c.in-Some.node; replays = c.requires.replays; told = c.in-Ok.ensures.ok; moved = c.in-Ok.ensures.state }

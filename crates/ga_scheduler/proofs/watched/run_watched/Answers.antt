@@ -14,14 +14,15 @@ loop-events-preserved g c =
     let start : ScheduledMachine = scheduled_machine c.args.lab.now c.args.schedule in
     let here : ScheduledMachine = scheduled_machine c.loop-events.lab c.loop-events.schedule in
     let next : ScheduledMachine = scheduled_machine c.go.new.lab c.go.new.schedule in
-    let unmet : watch_ends_run_after by c.args.watch.now start c.loop-events.events ≡ false =
-    ends_is by c.args.watch.now c.loop-events.watch start here next c.loop-events.events c.in-Ok.made c.ends_run_after_event.result i.watch i.at c.in-Ok.ensures.told c.in-Ok.ensures.moved c.ends_run_after_event.ensures.answer
+    let unmet : watch_ends_run_after by (g.W.StopCondition.state c.args.watch.now) start c.loop-events.events ≡ false =
+    ends_is by (g.W.StopCondition.state c.args.watch.now) (g.W.StopCondition.state c.loop-events.watch) start here next c.loop-events.events c.in-Ok.made c.ends_run_after_event.result i.watch i.at c.in-Ok.ensures.told c.in-Ok.ensures.moved c.ends_run_after_event.ensures.answer
     ∙ c.if-ends_run_after_event.false in
     record {
       at = gone_on_first c.args.first start here next c.loop-events.events i.at c.in-Ok.ensures.moved;
       made = made_more_first c.args.first start here c.loop-events.events c.in-Ok.made i.at c.in-Ok.ensures.told i.made;
-      watch = seen_more by c.args.watch.now c.loop-events.watch c.ends_run_after_event.new.self start here next c.loop-events.events c.in-Ok.made i.watch i.at c.in-Ok.ensures.told c.in-Ok.ensures.moved c.ends_run_after_event.ensures.behind;
-      never = never_more_first by c.args.watch.now start c.loop-events.events unmet i.never;
+      watch = seen_more by (g.W.StopCondition.state c.args.watch.now) (g.W.StopCondition.state c.loop-events.watch) (g.W.StopCondition.state c.ends_run_after_event.new.self) start here next c.loop-events.events c.in-Ok.made i.watch i.at c.in-Ok.ensures.told c.in-Ok.ensures.moved c.ends_run_after_event.ensures.behind;
+      remembers = c.ends_run_after_event.ensures.remembers;
+      never = never_more_first by (g.W.StopCondition.state c.args.watch.now) start c.loop-events.events unmet i.never;
       ready = c.in-Ok.ensures.ready;
       known = c.in-Ok.ensures.known;
       draws = c.go.ensures.draws;
@@ -34,6 +35,7 @@ loop-events-init g c = record {
   at = refl;
   made = λ k l. absurd (omega arith);
   watch = refl;
+  remembers = c.requires;
   never = λ k l. absurd (omega arith);
   ready = subst (λ z. HoldsExactlyReadyNodes z c.ready_nodes-ready.result) c.chip.ensures.value c.ready_nodes-ready.ensures;
   draws = c.draws-draws.ensures;
@@ -41,6 +43,9 @@ loop-events-init g c = record {
   replays = ap is_some c.chip.ensures.replays;
   most = omega arith;
 }
+
+pub ends_run_after_event-requires-clause-remembered : goal.ends_run_after_event-requires-clause-remembered
+ends_run_after_event-requires-clause-remembered g c = (c.loop-events.lab, c.loop-events.invariant.remembers, c.in-Ok.ensures.step)
 
 pub returns-then-ends_run_after_event-clause-state : goal.returns-then-ends_run_after_event-clause-state
 returns-then-ends_run_after_event-clause-state g c =
@@ -55,7 +60,7 @@ returns-then-ends_run_after_event-clause-made g c =
 pub returns-then-ends_run_after_event-clause-watch : goal.returns-then-ends_run_after_event-clause-watch
 returns-then-ends_run_after_event-clause-watch g c =
     let i = c.loop-events.invariant in
-    seen_more (make_run_watch c.args.first g.W.StopCondition.ends g.W.StopCondition.seen) c.args.watch.now c.loop-events.watch c.ends_run_after_event.new.self (scheduled_machine c.args.lab.now c.args.schedule)
+    seen_more (make_run_watch c.args.first g.W.StopCondition.ends g.W.StopCondition.seen) (g.W.StopCondition.state c.args.watch.now) (g.W.StopCondition.state c.loop-events.watch) (g.W.StopCondition.state c.ends_run_after_event.new.self) (scheduled_machine c.args.lab.now c.args.schedule)
     (scheduled_machine c.loop-events.lab c.loop-events.schedule) (scheduled_machine c.go.new.lab c.go.new.schedule) c.loop-events.events c.in-Ok.made i.watch i.at c.in-Ok.ensures.told c.in-Ok.ensures.moved c.ends_run_after_event.ensures.behind
 
 pub returns-then-ends_run_after_event-clause-end : goal.returns-then-ends_run_after_event-clause-end
@@ -65,10 +70,10 @@ returns-then-ends_run_after_event-clause-end g c =
     let start : ScheduledMachine = scheduled_machine c.args.lab.now c.args.schedule in
     let here : ScheduledMachine = scheduled_machine c.loop-events.lab c.loop-events.schedule in
     let next : ScheduledMachine = scheduled_machine c.go.new.lab c.go.new.schedule in
-    let met : watch_ends_run_after by c.args.watch.now start c.loop-events.events ≡ true =
-    ends_is by c.args.watch.now c.loop-events.watch start here next c.loop-events.events c.in-Ok.made c.ends_run_after_event.result i.watch i.at c.in-Ok.ensures.told c.in-Ok.ensures.moved c.ends_run_after_event.ensures.answer
+    let met : watch_ends_run_after by (g.W.StopCondition.state c.args.watch.now) start c.loop-events.events ≡ true =
+    ends_is by (g.W.StopCondition.state c.args.watch.now) (g.W.StopCondition.state c.loop-events.watch) start here next c.loop-events.events c.in-Ok.made c.ends_run_after_event.result i.watch i.at c.in-Ok.ensures.told c.in-Ok.ensures.moved c.ends_run_after_event.ensures.answer
     ∙ c.if-ends_run_after_event.true in
-    ended_seen by c.args.watch.now start here c.args.most c.loop-events.events c.in-Ok.made i.at i.never c.in-Ok.ensures.told met
+    ended_seen by (g.W.StopCondition.state c.args.watch.now) start here c.args.most c.loop-events.events c.in-Ok.made i.at i.never c.in-Ok.ensures.told met
 
 pub returns-in-Err-clause-state : goal.returns-in-Err-clause-state
 returns-in-Err-clause-state g c =
@@ -76,7 +81,7 @@ returns-in-Err-clause-state g c =
 
 pub returns-in-Err-clause-end : goal.returns-in-Err-clause-end
 returns-in-Err-clause-end g c =
-    ended_halted_first (make_run_watch c.args.first g.W.StopCondition.ends g.W.StopCondition.seen) c.args.watch.now (scheduled_machine c.args.lab.now c.args.schedule) (scheduled_machine c.loop-events.lab c.loop-events.schedule)
+    ended_halted_first (make_run_watch c.args.first g.W.StopCondition.ends g.W.StopCondition.seen) (g.W.StopCondition.state c.args.watch.now) (scheduled_machine c.args.lab.now c.args.schedule) (scheduled_machine c.loop-events.lab c.loop-events.schedule)
     c.args.most c.loop-events.events c.in-Err.end c.loop-events.invariant.at c.loop-events-test.true c.loop-events.invariant.never c.in-Err.ensures.halted
 
 pub returns-clause-state : goal.returns-clause-state

@@ -11,8 +11,9 @@ abbrev pub invariant-loop-events : goal.invariant-loop-events
 invariant-loop-events g l = record {
   at : scheduled_machine l.lab l.schedule ≡ run_after_events_with_precedence l.first (scheduled_machine l.initial.lab l.initial.schedule) l.events;
   made : CanMakeNextPrecedenceEvents l.first (scheduled_machine l.initial.lab l.initial.schedule) l.events;
-  watch : l.watch ≡ watch_state_after_events (make_run_watch l.first g.W.StopCondition.ends g.W.StopCondition.seen) l.initial.watch (scheduled_machine l.initial.lab l.initial.schedule) l.events;
-  never : HasNoWatchEnd (make_run_watch l.first g.W.StopCondition.ends g.W.StopCondition.seen) l.initial.watch (scheduled_machine l.initial.lab l.initial.schedule) l.events;
+  watch : g.W.StopCondition.state l.watch ≡ watch_state_after_events (make_run_watch l.first g.W.StopCondition.ends g.W.StopCondition.seen) (g.W.StopCondition.state l.initial.watch) (scheduled_machine l.initial.lab l.initial.schedule) l.events;
+  remembers : g.W.StopCondition.remembers l.watch l.lab;
+  never : HasNoWatchEnd (make_run_watch l.first g.W.StopCondition.ends g.W.StopCondition.seen) (g.W.StopCondition.state l.initial.watch) (scheduled_machine l.initial.lab l.initial.schedule) l.events;
   ready : HoldsExactlyReadyNodes (chip_of_machine l.lab) l.ready;
   known : IsReadySetKnowledgeTrue l.ready l.known;
   draws : l.draws ≡ is_random_order l.schedule.order;
