@@ -5,7 +5,6 @@ mod asked;
 mod deciding;
 mod kept;
 mod known;
-mod later;
 pub mod laws;
 mod lines;
 mod moving;
@@ -18,7 +17,6 @@ mod writes;
 
 pub use asked::{queried_value, queried_value_at_walk};
 pub use deciding::{BranchDecision, BranchDecisions};
-pub use later::part_word_by_later_steps;
 pub use lines::{ProvenanceLine, ProvenanceLines, find_provenance_lines_at};
 pub use origin::{fetched_cell_at, origin_of_value};
 pub use value::PartValue;
