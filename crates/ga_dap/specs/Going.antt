@@ -18,7 +18,7 @@ use Rattle.ga_dap.specs.Telling.{AreRunSliceMessages, AreMoveBackMessages}
 
 -- some events of the run are made, and the messages have what changed and why the run ended, if it did
 abbrev pub MakesRunSliceWithStopReason : LaunchedSession → Option StopReason → Messages → LaunchedSession → Type 0
-MakesRunSliceWithStopReason l stop messages new = MakesEventSlice l.program l.settings l.execution new.program new.execution stop × (new.settings ≡ l.settings)
+MakesRunSliceWithStopReason l stop messages new = (watched : Bool) × MakesEventSlice watched l.program l.settings l.execution new.program new.execution stop × (new.settings ≡ l.settings)
     × (before : ℕ → Bool) × AreNodesWithThreads l.program before × AreRunSliceMessages before new.program new.settings stop messages
 
 abbrev pub MakesRunSlice : LaunchedSession → Messages → LaunchedSession → Type 0

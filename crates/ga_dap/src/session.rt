@@ -1,10 +1,9 @@
 //! A session: what was launched, and the requests of the client.
 
-ghost use Rattle.std.specs.Prelude.{◌≡◌, ◌&&◌, [], ◌∷◌, Option, Some, None, codes, string_bytes, is_some, option_map, OnOk, OnErr};
+ghost use Rattle.std.specs.Prelude.{◌≡◌, ◌&&◌, [], ◌∷◌, Option, Some, None, codes, is_some, option_map, OnOk, OnErr};
 ghost use Rattle.ga_dap_control.specs.Requests.{AnswersImmediateRequest};
 ghost use Rattle.ga_dap_control.specs.Watched.{AreOptionalExpectationsKnown};
-ghost use Rattle.ga_dap_control.specs.declared.launched.LaunchedSession.{LaunchedSession as ALaunched};
-ghost use Rattle.ga_dap_queries.specs.Sending.{SendsMessages, Messages, bare_success_response};
+ghost use Rattle.ga_dap_queries.specs.Sending.{SendsMessages, bare_success_response};
 ghost use Rattle.ga_dap.specs.Answering.{AnswersRequest, AnswersKnownRequest, AnswersRequestWhileLaunched, PerformsRequest, AnswersRequestIfLaunched, ChangesLaunchedProgramOnly, AnswersInitializeRequest, AnswersDisconnectRequest, AnswersTerminateRequest, program_with_run_ended, needs_stopped_chip, begins_run, request_refusal_reason};
 ghost use Rattle.ga_dap.specs.Client.{has_session_active_run, new_session};
 ghost use Rattle.ga_dap.specs.Going.{MakesRunSlice};
@@ -292,7 +291,6 @@ fn in_place(
 }
 
 /// Makes a slice of the run in progress, and sends its result.
-#[tactic(auto, using(crate::proofs::Known::shown_so, crate::proofs::Known::carries_so))]
 pub(crate) fn go_on_launched(
     alloc: Global,
     launched: &mut LaunchedSession,

@@ -27,7 +27,7 @@ use Rattle.ga_dap_breakpoints.specs.declared.hits.HitTally.{HitTally}
 use Rattle.ga_dap_breakpoints.specs.Reversing.{hit_tally_of_history}
 use Rattle.ga_lab.specs.declared.fault.LabFault.TheVariants as fault
 use Rattle.ga_state_expectations.specs.declared.source.LineExpectation.{LineExpectation}
-use Rattle.ga_dap_control.specs.Watched.{AreWatchedExpectations}
+use Rattle.ga_dap_control.specs.Watched.{AreWatchedExpectations, has_expectations_to_watch}
 use Rattle.ga_dap_control.specs.declared.execution.Execution.{Execution}
 use Rattle.ga_dap_control.specs.declared.execution.RunGoal.{RunGoal}
 use Rattle.ga_dap_control.specs.declared.execution.RunGoal.TheVariants.{Continue, Step}
@@ -155,25 +155,29 @@ MakesSliceExpecting goal before expectations p set r new next result =
     × (result ≡ slice_stop_reason set goal stuck went.halt)
     × (next ≡ execution_after_stop (record between { reported = reported_deadlocks set.stuck result before now }) result)
 
--- no memory was left for the expectations of the source: no event is made
-abbrev pub LacksMemoryForExpectations : Debuggee → Execution → Debuggee → Execution → Option StopReason → Type 0
-LacksMemoryForExpectations p r new next result = (new ≡ p) × (next ≡ record r { goal = None }) × (result ≡ Some (stop.Refused fault.Memory))
+-- No memory was left for the expectations of the source: no event is made. So only where there are some to watch, and the slice before left none.
+abbrev pub LacksMemoryForExpectations : Bool → Debuggee → Configuration → Execution → Debuggee → Execution → Option StopReason → Type 0
+LacksMemoryForExpectations watched p set r new next result =
+    ((has_expectations_to_watch p set && not watched) ≡ true) × (new ≡ p) × (next ≡ record r { goal = None }) × (result ≡ Some (stop.Refused fault.Memory))
 
-abbrev pub MakesSliceGivenDeadlocked : RunGoal → List Bool → Debuggee → Configuration → Execution → Debuggee → Execution → Option StopReason → Type 0
-MakesSliceGivenDeadlocked goal before p set r new next result =
-    ((expectations : List LineExpectation) × AreWatchedExpectations p set expectations × MakesSliceExpecting goal before expectations p set r new next result) ⊎ LacksMemoryForExpectations p r new next result
+abbrev pub MakesSliceGivenDeadlocked : RunGoal → Bool → List Bool → Debuggee → Configuration → Execution → Debuggee → Execution → Option StopReason → Type 0
+MakesSliceGivenDeadlocked goal watched before p set r new next result =
+    ((expectations : List LineExpectation) × AreWatchedExpectations p set expectations × MakesSliceExpecting goal before expectations p set r new next result)
+    ⊎ LacksMemoryForExpectations watched p set r new next result
 
 -- a slice that begins with an unreported deadlocked node makes no event: it reports the node
-abbrev pub MakesEventsUnlessDeadlocked : Option NodeId → RunGoal → List Bool → Debuggee → Configuration → Execution → Debuggee → Execution → Option StopReason → Type 0
-MakesEventsUnlessDeadlocked (Some node) goal before p set r new next result =
+abbrev pub MakesEventsUnlessDeadlocked : Option NodeId → RunGoal → Bool → List Bool → Debuggee → Configuration → Execution → Debuggee → Execution → Option StopReason → Type 0
+MakesEventsUnlessDeadlocked (Some node) goal watched before p set r new next result =
     (new ≡ p) × (next ≡ record r { goal = None; reported = before }) × (result ≡ Some (stop.Stuck node))
-MakesEventsUnlessDeadlocked None goal before p set r new next result = MakesSliceGivenDeadlocked goal before p set r new next result
+MakesEventsUnlessDeadlocked None goal watched before p set r new next result = MakesSliceGivenDeadlocked goal watched before p set r new next result
 
-abbrev pub MakesSliceIfRunning : Option RunGoal → Debuggee → Configuration → Execution → Debuggee → Execution → Option StopReason → Type 0
-MakesSliceIfRunning None p set r new next result = (new ≡ p) × (next ≡ r) × (result ≡ None)
-MakesSliceIfRunning (Some goal) p set r new next result =
+abbrev pub MakesSliceIfRunning : Option RunGoal → Bool → Debuggee → Configuration → Execution → Debuggee → Execution → Option StopReason → Type 0
+MakesSliceIfRunning None watched p set r new next result = (new ≡ p) × (next ≡ r) × (result ≡ None)
+MakesSliceIfRunning (Some goal) watched p set r new next result =
     (before : List Bool) × (stuck : Option NodeId) × IsGreatestDeadlock (chip_of_machine p.lab) (is_node_flagged before)
-    × IsFirstNewlyDeadlocked (is_node_flagged r.reported) (is_node_flagged before) p stuck × MakesEventsUnlessDeadlocked (deadlocked_node_if_filter_set set.stuck stuck) goal before p set r new next result
+    × IsFirstNewlyDeadlocked (is_node_flagged r.reported) (is_node_flagged before) p stuck
+    × MakesEventsUnlessDeadlocked (deadlocked_node_if_filter_set set.stuck stuck) goal watched before p set r new next result
 
-abbrev pub MakesEventSlice : Debuggee → Configuration → Execution → Debuggee → Execution → Option StopReason → Type 0
-MakesEventSlice p set r new next result = MakesSliceIfRunning r.goal p set r new next result
+-- a slice of the run in progress, where the slice before left its expectations or didn't
+abbrev pub MakesEventSlice : Bool → Debuggee → Configuration → Execution → Debuggee → Execution → Option StopReason → Type 0
+MakesEventSlice watched p set r new next result = MakesSliceIfRunning r.goal watched p set r new next result

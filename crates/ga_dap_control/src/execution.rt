@@ -1,13 +1,13 @@
 //! The run under way.
 
-ghost use Rattle.std.specs.Prelude.{◌≡◌, ◌≤◌, Some, None};
+ghost use Rattle.std.specs.Prelude.{◌≡◌, ◌≤◌, Some, None, is_some};
 ghost use Rattle.ga_scheduler.specs.Running.{scheduled_machine};
 ghost use Rattle.ga_scheduler.specs.Watched.{run_after_events_with_precedence};
 ghost use Rattle.ga_dap_breakpoints.specs.Going.{IsMoveResult, tally_after_events, step_plan};
 ghost use Rattle.ga_dap_breakpoints.specs.Stepping.{move_after_events};
 ghost use Rattle.ga_state_expectations.specs.Knowledge.{IsExpectationKnowledge};
 ghost use Rattle.ga_dap_control.specs.Slices.{slice_event_limit, hit_tally_before_slice, ContinuesForSlice, StepsForSlice, AdvancesRunByGoal, MakesSliceIfRunning, MakesEventSlice, MakesSliceExpecting, MakesSliceGivenDeadlocked, execution_after_stop};
-ghost use Rattle.ga_dap_control.specs.Watched.{AreExpectationsKnown, AreOptionalExpectationsKnown, AreWatchedExpectations};
+ghost use Rattle.ga_dap_control.specs.Watched.{AreOptionalExpectationsKnown};
 
 use crate::configuration::Configuration;
 use crate::deadlocks::{keep_reported, newly_stuck, stuck_of, unreported};
@@ -22,7 +22,7 @@ use ga_grid::NodeId;
 use ga_lab::{Lab, LabFault};
 use ga_scheduler::Schedule;
 use ga_state_expectations::{ExpectationKnowledge, LineExpectation};
-use std::alloc::{AllocError, Global};
+use std::alloc::Global;
 
 /// How many events are made before the client is listened to again.
 pub const MAX_SLICE_EVENTS: u64 = 4096;
@@ -192,7 +192,7 @@ pub fn make_event_slice(
     watched: &mut Option<WatchedExpectations>,
 ) -> Option<StopReason>
     requires { AreOptionalExpectationsKnown program.old settings.now watched.old }
-    ensures slice { MakesEventSlice program.old settings.now execution.old program.new execution.new result }
+    ensures slice { MakesEventSlice (is_some watched.old) program.old settings.now execution.old program.new execution.new result }
     ensures known { AreOptionalExpectationsKnown program.new settings.now watched.new }
 {
     let goal = execution.goal?;
@@ -209,7 +209,7 @@ fn make_slice_of(
     watched: &mut Option<WatchedExpectations>,
 ) -> Option<StopReason>
     requires { AreOptionalExpectationsKnown program.old settings.now watched.old }
-    ensures slice { MakesSliceIfRunning (Some goal) program.old settings.now execution.old program.new execution.new result }
+    ensures slice { MakesSliceIfRunning (Some goal) (is_some watched.old) program.old settings.now execution.old program.new execution.new result }
     ensures known { AreOptionalExpectationsKnown program.new settings.now watched.new }
 {
     let before = stuck_of(program);
@@ -249,7 +249,7 @@ fn make_events(
     watched: &mut Option<WatchedExpectations>,
 ) -> Option<StopReason>
     requires { AreOptionalExpectationsKnown program.old settings.now watched.old }
-    ensures slice { MakesSliceGivenDeadlocked goal before.now program.old settings.now execution.old program.new execution.new result }
+    ensures slice { MakesSliceGivenDeadlocked goal (is_some watched.old) before.now program.old settings.now execution.old program.new execution.new result }
     ensures known { AreOptionalExpectationsKnown program.new settings.now watched.new }
 {
     match expectations_before_slice(alloc, program, settings, watched.take()) {

@@ -1,11 +1,13 @@
 //! The expectations of the source that a run watches.
 
-ghost use Rattle.std.specs.Prelude.{IfOk};
-ghost use Rattle.ga_dap_control.specs.Watched.{AreWatchedExpectations, AreExpectationsKnown, AreOptionalExpectationsKnown};
+ghost use Rattle.std.specs.Prelude.{◌≡◌, true, false, ◌&&◌, not, is_some, IfOk, IfErr};
+ghost use Rattle.ga_dap_control.specs.Watched.{has_expectations_to_watch, AreExpectationsKnown, AreOptionalExpectationsKnown};
 
 use crate::configuration::Configuration;
 use ga_dap_queries::Debuggee;
-use ga_state_expectations::{ExpectationKnowledge, LineExpectation, known_expectations};
+use ga_state_expectations::{
+    ExpectationKnowledge, LineExpectation, expects_nothing, known_expectations,
+};
 use std::alloc::{AllocError, Global};
 
 /// The expectations that a run watches, and what is known of them after its last event.
@@ -16,18 +18,24 @@ pub struct WatchedExpectations {
     pub known: ExpectationKnowledge,
 }
 
-/// The expectations that a run watches. Takes memory for them.
-fn watched_expectations(
-    alloc: Global,
-    program: &Debuggee,
-    settings: &Configuration,
-) -> Result<Vec<LineExpectation>, AllocError>
-    ensures { IfOk result (λ list. AreWatchedExpectations program.now settings.now list.items) }
+/// Whether there are expectations to watch: the filter `broken` is on, and a line of the source says what is expected.
+fn has_expectations_to_watch(program: &Debuggee, settings: &Configuration) -> bool
+    ensures { result ≡ has_expectations_to_watch program.now settings.now }
 {
-    if settings.broken {
-        known_expectations(alloc, &program.source)
-    } else {
-        Ok(Vec::new(alloc))
+    settings.broken && !expects_nothing(&program.source)
+}
+
+/// What is known where there are no expectations to watch. Takes no memory.
+fn watch_nothing(alloc: Global, program: &Debuggee, settings: &Configuration) -> WatchedExpectations
+    requires { has_expectations_to_watch program.now settings.now ≡ false }
+    ensures { AreExpectationsKnown program.now settings.now result }
+{
+    WatchedExpectations {
+        expectations: Vec::new(alloc),
+        known: ExpectationKnowledge {
+            words: Vec::new(alloc),
+            broken: Vec::new(alloc),
+        },
     }
 }
 
@@ -37,9 +45,13 @@ fn begin_to_watch(
     program: &Debuggee,
     settings: &Configuration,
 ) -> Result<WatchedExpectations, AllocError>
-    ensures { IfOk result (AreExpectationsKnown program.now settings.now) }
+    ensures known { IfOk result (AreExpectationsKnown program.now settings.now) }
+    ensures refused { IfErr result (λ why. has_expectations_to_watch program.now settings.now ≡ true) }
 {
-    let expectations = watched_expectations(alloc, program, settings)?;
+    if !has_expectations_to_watch(program, settings) {
+        return Ok(watch_nothing(alloc, program, settings));
+    }
+    let expectations = known_expectations(alloc, &program.source)?;
     let known = ExpectationKnowledge::at_begin_of_run(
         alloc,
         &program.lab,
@@ -53,6 +65,9 @@ fn begin_to_watch(
 
 /// What is known of the expectations that a run watches: as the slice before left it, or found anew. That takes memory for the expectations, and time linear
 /// in the number of steps of one end of each link.
+///
+/// # Errors
+/// Out of memory.
 pub(crate) fn expectations_before_slice(
     alloc: Global,
     program: &Debuggee,
@@ -60,7 +75,8 @@ pub(crate) fn expectations_before_slice(
     watched: Option<WatchedExpectations>,
 ) -> Result<WatchedExpectations, AllocError>
     requires { AreOptionalExpectationsKnown program.now settings.now watched }
-    ensures { IfOk result (AreExpectationsKnown program.now settings.now) }
+    ensures known { IfOk result (AreExpectationsKnown program.now settings.now) }
+    ensures refused { IfErr result (λ why. (has_expectations_to_watch program.now settings.now && not (is_some watched)) ≡ true) }
 {
     match watched {
         Some(watched) => Ok(watched),

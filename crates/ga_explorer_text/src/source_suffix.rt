@@ -201,20 +201,12 @@ impl<'l> StepContext<'l> {
         }
     }
 
-    /// The slot after the first `place` steps of a node, which is walked back there.
-    fn slot_near(&self, node: NodeId, place: u32) -> u32
-        requires { place ≤ count_steps node.number self.now.lab.now.kept }
-        ensures { result ≡ (node_after_steps self.now.lab.now node.number place).slot }
-    {
-        slot_after_walk_back(self.lab, node, place, &self.walk_back_to_step(node, place))
-    }
-
     /// The slot that was next before a step.
     fn before_step(&self, node: NodeId, step: u32) -> usize
         ensures { result ≡ slot_before_step self.now.lab.now node step }
     {
         let place = step.saturating_sub(1).min(self.lab.steps(node));
-        self.slot_near(node, place) as usize
+        self.word_after_steps(node, place, NodePart::Slot).get() as usize
     }
 
     /// The slot that was next before a step, if the source has slots of the cell; else that before a fetch.

@@ -14,7 +14,7 @@ use ga_event::NodePart;
 use ga_grid::NodeId;
 use ga_lab::{Lab, MadeEvent, NodeWalk};
 use ga_node::{Node, NodePlace, OwnEventKind};
-use ga_provenance::PartValue;
+use ga_provenance::{PartValue, part_word_by_later_steps};
 use ga_word::Word18;
 
 /// The code of `+*`.
@@ -172,14 +172,6 @@ impl<'l> StepContext<'l> {
     ghost use Rattle.ga_provenance.specs.Origins.{is_made_with_a_or_carry, origin_of_value, IsMovedValue};
     ghost use Rattle.ga_explorer_text.specs.Whence.{word_of_value, register_a_after_making_step, value_with_word_text, value_origin_text};
 
-    /// The context of the step of a value.
-    pub fn context_of_value(&self, value: PartValue) -> StepContext<'l>
-        ensures lab { result.lab.now ≡ self.now.lab.now }
-        ensures notes { result.notes.now ≡ self.now.notes.now }
-    {
-        self.context_of(value.node, value.step)
-    }
-
     /// The context of a step of a node, or of its last one.
     fn context_of(&self, node: NodeId, step: u32) -> StepContext<'l>
         ensures lab { result.lab.now ≡ self.now.lab.now }
@@ -215,8 +207,21 @@ impl<'l> StepContext<'l> {
         }
     }
 
-    /// The context of where a value was used, if its line has a word that is read there: by the context of the line before, if that
-    /// is of the same node and not earlier, else from here. For any other line the context of the line before.
+    /// Whether the words of a value's line are read from entries of steps, so that no node is walked back for them. It decides only
+    /// how long the line takes.
+    fn has_words_by_later_steps(&self, value: PartValue, used: PartValue) -> bool {
+        if is_made_with_a_or_carry(self.lab, value) {
+            let PartValue { node, step, part } = value;
+            part_word_by_later_steps(self.lab, node, step, part).is_some()
+                && part_word_by_later_steps(self.lab, node, step, NodePart::A).is_some()
+        } else {
+            let PartValue { node, step, part } = used;
+            part_word_by_later_steps(self.lab, node, step, part).is_some()
+        }
+    }
+
+    /// The context of where a value was used, if the node must be walked back there for a word of its line: by the context of the
+    /// line before, if that is of the same node and not earlier, else from here. For any other line the context of the line before.
     pub fn context_of_value_use(
         &self,
         last: StepContext<'l>,
@@ -229,7 +234,9 @@ impl<'l> StepContext<'l> {
         ensures notes { result.notes.now ≡ self.now.notes.now }
     {
         let PartValue { node, step, .. } = used;
-        if has_only_transferred_word(self.lab, value) {
+        if has_only_transferred_word(self.lab, value)
+            || self.has_words_by_later_steps(value, used)
+        {
             last
         } else if last.node == node && step <= last.near.step() {
             last.walked_back_to(step)
@@ -238,17 +245,31 @@ impl<'l> StepContext<'l> {
         }
     }
 
-    /// Reads the words of a value. Takes time linear in the number of steps that its node is walked back.
+    /// The word in a part of a node after some of its steps: by the entries of the next few steps if one of these overwrote it, else
+    /// the node is walked back.
+    pub(crate) fn word_after_steps(&self, node: NodeId, place: u32, part: NodePart) -> Word18
+        requires { place ≤ count_steps node.number self.now.lab.now.kept }
+        ensures { result ≡ node_part_value 0 (node_after_steps self.now.lab.now node.number place) part }
+    {
+        match part_word_by_later_steps(self.lab, node, place, part) {
+            Some(word) => word,
+            None => {
+                let walk = self.walk_back_to_step(node, place);
+                part_word_after_walk_back(self.lab, node, place, &walk, part)
+            }
+        }
+    }
+
+    /// Reads the words of a value.
     pub fn words_of_value(&self, value: PartValue) -> ValueWords
         ensures word { result.word ≡ word_of_value self.now.lab.now value }
         ensures a { result.a ≡ register_a_after_making_step self.now.lab.now value }
     {
         let PartValue { node, step, part } = value;
         let place = step.min(self.lab.steps(node));
-        let walk = self.walk_back_to_step(node, place);
         ValueWords {
-            word: part_word_after_walk_back(self.lab, node, place, &walk, part),
-            a: part_word_after_walk_back(self.lab, node, place, &walk, NodePart::A),
+            word: self.word_after_steps(node, place, part),
+            a: self.word_after_steps(node, place, NodePart::A),
         }
     }
 
@@ -259,12 +280,14 @@ impl<'l> StepContext<'l> {
         ensures { result ≡ word_of_value self.now.lab.now (origin_of_value self.now.lab.now used) }
     {
         let PartValue { node, step, part } = used;
-        // This is called only for its contract, that the chip has all its nodes.
+        let steps = self.lab.steps(node);
+        // These are called only for their contracts: that the chip has all its nodes, and a node all its words.
         self.lab.chip().node(node);
-        let place = step.min(self.lab.steps(node));
-        let walk = self.walk_back_to_step(node, place);
-        walk.node().has_valid_list_sizes();
-        part_word_after_walk_back(self.lab, node, place, &walk, part)
+        self.lab
+            .walk_node_from_step(node, steps)
+            .node()
+            .has_valid_list_sizes();
+        self.word_after_steps(node, step.min(steps), part)
     }
 
     /// The words of the line of a value that was used there: it has the same word there, unless its step may have made T with it.

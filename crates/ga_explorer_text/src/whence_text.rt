@@ -146,8 +146,7 @@ impl<'l> StepContext<'l> {
         self.say_queried(value, has_queried_step_line(is_moved, first), writer)?;
         let skipped = first.saturating_sub(1);
         let written = skip_provenance_lines(lines, skipped);
-        let root = self.root(lines);
-        root.say_lines(self.copy(), is_moved, skipped, written, writer)
+        self.say_lines(is_moved, skipped, written, writer)
     }
 
     /// Says the step asked for, to which its node is walked back, with the queried value, if this is written.
@@ -178,34 +177,19 @@ impl<'l> StepContext<'l> {
         self.write_current_step_suffix(writer)
     }
 
-    /// The context of the step of the first line's value, or this one where there are fewer than two lines.
-    fn root(&self, lines: &[ProvenanceLine]) -> StepContext<'l>
-        ensures lab { result.lab.now ≡ self.now.lab.now }
-        ensures notes { result.notes.now ≡ self.now.notes.now }
-    {
-        match lines {
-            [first, _, ..] => self.context_of_value(first.value),
-            _ => self.copy(),
-        }
-    }
-
-    /// Says some lines, of which `skipped` come before. Their words are read from `start`, a context of the same lab, and from
-    /// here.
+    /// Says some lines, of which `skipped` come before.
     fn say_lines<W: Write>(
         &self,
-        start: StepContext<'l>,
         is_moved: bool,
         skipped: u32,
         lines: &[ProvenanceLine],
         writer: &mut Writer<'_, W>,
     ) -> WriteResult
-        requires lab { start.lab.now ≡ self.now.lab.now }
-        requires notes { start.notes.now ≡ self.now.notes.now }
         requires most { skipped + length lines.now < 2 ^ 32 }
         requires used { All (IsLineOfMovedValue self.now.lab.now) lines.now }
         ensures { WritesSomeText result (λ text. text ≡ numbered_provenance_lines_text self.now.notes.now self.now.lab.now is_moved skipped lines.now) W.contents writer.old writer.new }
     {
-        let mut here = start;
+        let mut here = self.copy();
         let mut number = skipped;
         'lines: for line in lines {
             here = self.context_of_value_use(here, line.value, line.used);

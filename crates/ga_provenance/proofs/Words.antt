@@ -157,6 +157,31 @@ some_within [] i l = absurd (omega (arith, l))
 some_within (x ∷ xs) zero l = (x, refl)
 some_within (x ∷ xs) (suc i) l = some_within xs i (omega (arith, l))
 
+-- what an own event copied has its word
+copied_word : (word : ℕ) (n : NodeRecord) (flow : ValueFlow) (x y : ℕ) (start : NodePart) → flow ≡ CopiedFromPart start → AreBothValuesFromFlow word n word n flow x y → x ≡ node_part_value word n start
+copied_word word n flow x y start is comes = (subst (λ (f : ValueFlow). AreBothValuesFromFlow word n word n f x y) is comes).0
+
+pub own_copied : (s : MachineState) (n k step : ℕ) (m : NodeId) (kind : OwnEventKind) → HasMachineAllNodes s → slice_get (history_of_node s n) k ≡ Some (made.Own m step kind)
+    → HasValidListSizes (node_after_steps s n k) → (at start : NodePart) → IsNodePartInRange at → IsNodePartInRange start → flow_of_own_event (node_after_steps s n k) at ≡ CopiedFromPart start
+    → node_part_value 0 (node_after_steps s n (k + 1)) at ≡ node_part_value 0 (node_after_steps s n k) start
+own_copied s n k step m kind whole h has at start is there flow =
+    let step_is = became_so s n k step m kind whole h in
+    let before : NodeRecord = node_after_steps s n k in
+    let word : ℕ = io_word step_is.seen in
+    let after : ℕ = node_part_value word (own step_is.seen before).1 at in
+    ap (λ (z : NodeRecord). node_part_value 0 z at) step_is.next
+    ∙ sym (word_free word (own step_is.seen before).1 at is)
+    ∙ copied_word word before (flow_of_own_event before at) after after start flow (own_flows step_is.seen step_is.seen before before (record { due = refl; choice = refl }) has has at is)
+    ∙ word_free word before start there
+
+-- a node after any of its steps has the sizes that it has after a later one
+pub sizes_before : (s : MachineState) (n k more : ℕ) → HasMachineAllNodes s → k + more ≤ length (history_of_node s n) → HasValidListSizes (node_after_steps s n (k + more)) → HasValidListSizes (node_after_steps s n k)
+sizes_before s n k zero whole l has = subst (λ (z : ℕ). HasValidListSizes (node_after_steps s n z)) (let e : k + zero ≡ k = omega arith in e) has
+sizes_before s n k (suc more) whole l has =
+    let made = some_within (history_of_node s n) (k + more) (omega (arith, l)) in
+    let then = subst (λ (z : ℕ). HasValidListSizes (node_after_steps s n z)) (let e : k + suc more ≡ suc (k + more) = omega arith in e) has in
+    sizes_before s n k more whole (omega (arith, l)) ((step_moves s n (k + more) made.0 whole made.1).sizes then)
+
 -- a value was made with this word in a part, which it is listed as, or as the T that was made with it
 record HasWord (s : MachineState) (node : NodeId) (held : ℕ) (value : PartValue) : Type 0 where
   part : NodePart

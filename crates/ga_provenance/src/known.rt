@@ -10,6 +10,7 @@ ghost use Rattle.ga_event.specs.Flow.{IsNodePartInRange, deciding_test_or_target
 ghost use Rattle.ga_provenance.specs.Origins.{node_after_steps, value_flow_at_step};
 ghost use Rattle.ga_provenance.specs.inner.{IsNextActionOfKind, IsTrailNotPastStep};
 
+use crate::later::value_by_later_steps;
 use crate::trail::CachedWalk;
 use ga_event::{
     DecidingTestOrTarget, MadeEvent, NodePart, ValueFlow, flow_after_send, flow_after_take,
@@ -21,23 +22,11 @@ use ga_node::{NextAction, NodePlace, OwnEventKind, Wait};
 use ga_ports::{PortSet, classify_address};
 use ga_slots::Op;
 
-/// The number of steps that are searched for the old value of P: an instruction word has four slots, and the fetch after them
-/// writes P.
-const AHEAD: u32 = 8;
-
 // P right before the step at a place, where one of the next few steps wrote P.
 pub(crate) fn p_at(lab: &Lab, node: NodeId, place: u32) -> Option<u32>
     ensures { IfSome result (λ p. (node_after_steps lab.now node.number place).p ≡ p) }
 {
-    let steps = lab.steps(node);
-    let mut at = place;
-    'looking: while at < steps && at - place < AHEAD {
-        if let Some(p) = lab.overwritten_value(node, at, NodePlace::P) {
-            return Some(p);
-        }
-        at += 1;
-    }
-    None
+    value_by_later_steps(lab, node, place, NodePlace::P)
 }
 
 // What decides an opcode at a place: P is read from the entries of the next few steps, A and B from the trail.
@@ -116,7 +105,7 @@ fn own_flow_at(
 }
 
 // What came next in a node whose event was of this kind.
-fn due_by(kind: OwnEventKind) -> Option<NextAction>
+pub(crate) fn due_by(kind: OwnEventKind) -> Option<NextAction>
     ensures { IfSome result (λ due. IsNextActionOfKind kind due) }
 {
     match kind {

@@ -88,6 +88,7 @@ impl DataStack {
         requires { place < 10 }
         ensures word { result ≡ slice_index (words_of_stack self.now) place }
         ensures size { 2 ≤ place → length (words_of_stack self.now) ≡ 10 }
+        ensures registers { length self.now.registers ≡ 2 }
     {
         match place {
             0 => self.top,

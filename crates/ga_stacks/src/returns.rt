@@ -77,6 +77,7 @@ impl ReturnStack {
         requires { place < 9 }
         ensures word { result ≡ slice_index (words_of_stack self.now) place }
         ensures size { 1 ≤ place → length (words_of_stack self.now) ≡ 9 }
+        ensures registers { length self.now.registers ≡ 1 }
     {
         match place {
             0 => self.top,

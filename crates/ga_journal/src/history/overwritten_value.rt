@@ -11,9 +11,14 @@ fn over(what: NodePlace, place: NodePlace, old: u32) -> Option<u32>
     ensures { result ≡ old_value_or_previous what place old None }
 {
     match (what, place) {
+        (NodePlace::T, NodePlace::T) => Some(old),
+        (NodePlace::S, NodePlace::S) => Some(old),
+        (NodePlace::R, NodePlace::R) => Some(old),
         (NodePlace::P, NodePlace::P) => Some(old),
+        (NodePlace::I, NodePlace::I) => Some(old),
         (NodePlace::A, NodePlace::A) => Some(old),
         (NodePlace::B, NodePlace::B) => Some(old),
+        (NodePlace::Slot, NodePlace::Slot) => Some(old),
         (NodePlace::Wait, NodePlace::Wait) => Some(old),
         (NodePlace::Ram(cell), NodePlace::Ram(other)) => {
             if cell == other { Some(old) } else { None }

@@ -110,8 +110,8 @@ impl Lab {
         }
     }
 
-    /// The value of a place of a node right before its step, the one at a position from 0 on, if the step wrote there: P, A, B,
-    /// the number of the wait, or a cell of RAM. It is read from the step's entry, without a walk. None if the step didn't
+    /// The value of a place of a node right before its step, the one at a position from 0 on, if the step wrote there: T, S, R,
+    /// P, I, A, B, the slot, the number of the wait, or a cell of RAM. It is read from the step's entry, without a walk. None if the step didn't
     /// write there, past the node's steps, and for each other place. Takes no memory, and the same time whatever the history
     /// is.
     pub fn overwritten_value(&self, node: NodeId, at: u32, what: NodePlace) -> Option<u32>

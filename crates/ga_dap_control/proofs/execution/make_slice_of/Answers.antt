@@ -1,4 +1,5 @@
 use Rattle.std.proofs.Common.{Option, Some, refl, ap, subst}
+use Rattle.std.specs.Prelude.{is_some}
 use Rattle.ga_grid.specs.declared.node_id.NodeId.{NodeId}
 use Rattle.ga_dap_control.specs.Slices.{MakesEventsUnlessDeadlocked}
 use Rattle.ga_dap_control.proofs.execution.make_slice_of.Goals as goal
@@ -10,7 +11,7 @@ returns-in-Some-clause-slice c =
       told.0,
       c.stuck_of-before.ensures,
       told.1,
-      subst (λ (z : Option NodeId). MakesEventsUnlessDeadlocked z c.args.goal c.stuck_of-before.result c.args.program.now c.args.settings.now c.args.execution.now c.args.program.now c.report.new.execution
+      subst (λ (z : Option NodeId). MakesEventsUnlessDeadlocked z c.args.goal (is_some c.args.watched.now) c.stuck_of-before.result c.args.program.now c.args.settings.now c.args.execution.now c.args.program.now c.report.new.execution
           (Some c.report.result)) told.2 (refl, c.report.ensures.next, ap Some c.report.ensures.reason),
     )
 
@@ -21,6 +22,6 @@ returns-in-None-clause-slice c =
       told.0,
       c.stuck_of-before.ensures,
       told.1,
-      subst (λ (z : Option NodeId). MakesEventsUnlessDeadlocked z c.args.goal c.stuck_of-before.result c.args.program.now c.args.settings.now c.args.execution.now c.make_events.new.program
+      subst (λ (z : Option NodeId). MakesEventsUnlessDeadlocked z c.args.goal (is_some c.args.watched.now) c.stuck_of-before.result c.args.program.now c.args.settings.now c.args.execution.now c.make_events.new.program
           c.make_events.new.execution c.make_events.result) told.2 c.make_events.ensures.slice,
     )

@@ -33,19 +33,12 @@ returns-in_err-say_queried g c = (
       ),
 )
 
-pub say_lines-requires-clause-lab : goal.say_lines-requires-clause-lab
-say_lines-requires-clause-lab g c = c.copy.ensures.lab ∙ sym c.root-root.ensures.lab
-
-pub say_lines-requires-clause-notes : goal.say_lines-requires-clause-notes
-say_lines-requires-clause-notes g c = c.copy.ensures.notes ∙ sym c.root-root.ensures.notes
-
 pub say_lines-requires-clause-most : goal.say_lines-requires-clause-most
 say_lines-requires-clause-most g c = rw c.skip_provenance_lines-written.ensures (omega (arith, c.requires.most, length-drop {A = ProvenanceLine}))
 
 pub say_lines-requires-clause-used : goal.say_lines-requires-clause-used
 say_lines-requires-clause-used g c =
-    subst (λ (s : MachineState). All (IsLineOfMovedValue s) c.skip_provenance_lines-written.result.now) (sym c.root-root.ensures.lab)
-    (subst (All (IsLineOfMovedValue c.args.self.now.lab.now)) (sym c.skip_provenance_lines-written.ensures) (All-drop (IsLineOfMovedValue c.args.self.now.lab.now) c.saturating_sub-skipped.result c.args.lines.now c.requires.used))
+    subst (All (IsLineOfMovedValue c.args.self.now.lab.now)) (sym c.skip_provenance_lines-written.ensures) (All-drop (IsLineOfMovedValue c.args.self.now.lab.now) c.saturating_sub-skipped.result c.args.lines.now c.requires.used)
 
 pub returns : goal.returns
 returns g c = (
@@ -58,7 +51,6 @@ returns g c = (
       let value = c.args.value in
       let first = c.args.first in
       let lines = c.args.lines.now in
-      let root = c.root-root.result in
       let skipped = c.saturating_sub-skipped.result in
       let written = c.skip_provenance_lines-written.result.now in
       let made : not c.is_step_of_first_line-is_moved.result ≡ not (is_step_of_first_line at lines) = ap not (c.is_step_of_first_line-is_moved.ensures ∙ ap (λ (k : ℕ). is_step_of_first_line k lines) c.step.ensures.value) in
@@ -66,8 +58,6 @@ returns g c = (
       let more = c.say_lines.ensures.1 before (said ++ done.0) done.2 in
       let last : more.0 ≡ numbered_provenance_lines_text notes s (not (is_step_of_first_line at lines)) (first - 1) (drop (first - 1) lines) =
       more.1
-      ∙ ap (λ (n : Option DebugInfo). numbered_provenance_lines_text n root.lab.now (not c.is_step_of_first_line-is_moved.result) skipped written) c.root-root.ensures.notes
-      ∙ ap (λ (t : MachineState). numbered_provenance_lines_text notes t (not c.is_step_of_first_line-is_moved.result) skipped written) c.root-root.ensures.lab
       ∙ ap (λ (b : Bool). numbered_provenance_lines_text notes s b skipped written) made
       ∙ ap (λ (z : List ProvenanceLine). numbered_provenance_lines_text notes s (not (is_step_of_first_line at lines)) skipped z) c.skip_provenance_lines-written.ensures
       ∙ ap (λ (k : ℕ). numbered_provenance_lines_text notes s (not (is_step_of_first_line at lines)) k (drop k lines)) c.saturating_sub-skipped.ensures in (

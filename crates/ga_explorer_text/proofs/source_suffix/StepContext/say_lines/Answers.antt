@@ -10,8 +10,8 @@ use Rattle.ga_explorer_text.proofs.source_suffix.StepContext.say_lines.Goals as 
 
 pub lines-init : goal.lines-init
 lines-init g c = record {
-  lab = c.requires.lab;
-  notes = c.requires.notes;
+  lab = c.copy-here.ensures.lab;
+  notes = c.copy-here.ensures.notes;
   number = omega arith;
   same = search rules;
   said = λ before said h. record { front = []; splits = refl; is_said = written_pending _ before said _ h };
