@@ -5,3 +5,4 @@ pub mod Reaching
 pub mod Whole
 pub mod Leading
 pub mod Spelling
+pub mod Along

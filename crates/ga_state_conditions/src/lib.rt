@@ -4,6 +4,7 @@
 
 mod asked;
 mod condition;
+mod edge;
 mod event;
 mod finding;
 pub mod laws;
