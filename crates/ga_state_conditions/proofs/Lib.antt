@@ -5,4 +5,3 @@ pub mod Reaching
 pub mod Whole
 pub mod Leading
 pub mod Spelling
-pub mod Along

@@ -4,7 +4,6 @@
 
 mod asked;
 mod condition;
-mod edge;
 mod event;
 mod finding;
 pub mod laws;
