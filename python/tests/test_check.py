@@ -41,11 +41,11 @@ def test_a_word_too_many(tmp_path):
 
 def test_an_event_that_never_should_come(examples):
     one = check(os.path.join(examples, "status-5", "ring_without_a_token.f18")).expectations[2]
-    assert one.because == "event" and one.event == Event("wait", "101", 70) and str(one.event) == "101 70 wait"
+    assert one.because == "event" and one.event == Event("wait", "100", 134) and str(one.event) == "100 134 wait"
 
 
 def test_a_bound(examples):
-    report = check(os.path.join(examples, "lock.f18"), "--most", "2000")
+    report = check(os.path.join(examples, "lock.f18"), "--most", "400")
     assert (report.status, report.explored, report.stopped) == (6, False, "states")
     assert "unknown" in {one.outcome for one in report.expectations}
 

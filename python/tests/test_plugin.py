@@ -34,7 +34,7 @@ def test_a_broken_expectation_fails_with_its_line(run):
 
 
 def test_an_expectation_that_is_not_known_fails(run):
-    ran = run("lock.f18", "-o", "ga144_options=--most 2000")
+    ran = run("lock.f18", "-o", "ga144_options=--most 400")
     assert ran.ret == 1
     ran.stdout.fnmatch_lines(["*not known, stopped by states after * states"])
 

@@ -22,7 +22,8 @@ pub unmet_inside : (s : MachineState) (found : EndSearchResult) (expectation : N
 unmet_inside s found expectation Holds is = tt
 unmet_inside s found expectation Unknown is = tt
 unmet_inside s found expectation (Broken breach) is =
-    subst (λ (b : Breach). IfSome (breach_state b) (λ number. number < length found.searched.chips)) (sym is.4) (slice_get_within found.searched.chips is.0 is.1 is.3)
+    subst (λ (b : Breach). IfSome (breach_state b) (λ number. number < length found.searched.chips)) (sym is.2)
+    (let at = is.1.is_unmet.at_end in slice_get_within found.searched.chips is.0.state at.stored at.at_end.at)
 
 abbrev pub AreDecidedUpTo : EndSearchResult → List LineExpectation → List ExpectationOutcome → ℕ → List (Option EndDecision) → Type 0
 AreDecidedUpTo found expectations outcomes to decisions =

@@ -27,11 +27,11 @@ use Rattle.ga_check_report.specs.Expected.{LeadsToBreach, unbroken_expectation_v
 use Rattle.ga_check_report.specs.Expected.WritesExpectationsReport.{led, unbroken}
 use Rattle.ga_check_report.specs.inner.{WritesSessionOfExpectation}
 
-pub led_to_unmet : (s t : MachineState) (found : EndSearchResult) (expectation : NodeExpectation) (state : ℕ) (events : List Event) → AreEndsOfChip (chip_of_machine s) found
-    → (unmet : IsExpectationUnmetAt found expectation state) → replay (chip_of_machine s) events ≡ Some unmet.chip → HasAppendedEvents s events t → replay (chip_of_machine s) events ≡ Some (chip_of_machine t)
+pub led_to_unmet : (s t : MachineState) (found : EndSearchResult) (expectation : NodeExpectation) (state : ℕ) (before events : List Event) → AreEndsOfChip (chip_of_machine s) found
+    → (unmet : IsExpectationUnmetAt found expectation state before) → replay (chip_of_machine s) events ≡ Some unmet.chip → HasAppendedEvents s events t → replay (chip_of_machine s) events ≡ Some (chip_of_machine t)
     → LeadsToBreach s (NodeAtEveryEnd expectation) t
-led_to_unmet s t found expectation state events are unmet leads made there =
-    let it = unmet_there (chip_of_machine s) found are expectation state unmet.chip unmet unmet.at_end.at in
+led_to_unmet s t found expectation state before events are unmet leads made there =
+    let it = unmet_there (chip_of_machine s) found are expectation state before unmet.at_end.stored unmet.chip unmet unmet.at_end.at_end.at unmet.at_end.leads in
     let same : unmet.chip ≡ chip_of_machine t = same_Some unmet.chip (chip_of_machine t) (sym leads ∙ there) in (
       events,
       made,

@@ -1,26 +1,27 @@
 -- What an outcome and a verdict about expectations say of every interleaving.
-use Rattle.std.proofs.Common.{◌≡◌, ◌∙◌, ◌⊎◌, inl, inr, ℕ, zero, suc, ◌-◌, ◌<◌, ◌≤◌, Bool, true, false, cond, List, [], ◌∷◌, length, get_or, Some, None, true≢false, refl, sym, ap, subst, arith}
-use Rattle.std.specs.Prelude.{slice_get, map}
+use Rattle.std.proofs.Common.{◌≡◌, ◌∙◌, ◌⊎◌, inl, inr, ℕ, zero, suc, ◌-◌, ◌*◌, ◌<◌, ◌≤◌, Bool, true, false, cond, List, [], ◌∷◌, ◌++◌, length, get_or, Some, None, true≢false, refl, sym, ap, subst, arith}
+use Rattle.std.specs.Prelude.{slice_get}
 use Rattle.std.specs.List.{list_any}
 use Rattle.std.proofs.lemmas.Option.{same_Some, slice_get_within}
-use Rattle.std.proofs.lemmas.List.Elements.{All-contains}
 use Rattle.ga_node.specs.Record.{NodeRecord}
 use Rattle.ga_event.specs.declared.event.Event.{Event}
-use Rattle.ga_event.specs.Apply.{event_result, replay}
+use Rattle.ga_event.specs.Apply.{replay}
+use Rattle.ga_races.proofs.Exact.{replay_into}
 use Rattle.ga_races.proofs.Independence.{replay_more}
 use Rattle.ga_lab.specs.Machine.{MachineState, chip_of_machine}
 use Rattle.ga_explorer_text.specs.Saved.{saved_session_text}
 use Rattle.ga_console.specs.declared.run.Status.TheVariants.{ImageRefused}
+use Rattle.ga_state_store.specs.Edges.{forced_events, events_of_edge}
 use Rattle.ga_state_store.specs.declared.edges.Edge.{Edge}
 use Rattle.ga_state_search.specs.Searching.{StoredSearch, IsStoredSearch}
 use Rattle.ga_state_search.proofs.Reaching.{reachable}
-use Rattle.ga_state_graph.specs.Paths.{IsEdgeOfState, IsStatePath}
-use Rattle.ga_state_graph.proofs.Numbering.{has_list, in_list}
+use Rattle.ga_state_graph.specs.Paths.{IsStatePath}
+use Rattle.ga_state_graph.proofs.Numbering.{has_list}
+use Rattle.ga_state_ends.specs.Along.{events_of_part}
 use Rattle.ga_state_ends.specs.Ends.{EndSearchResult, AreEndsOfChip}
 use Rattle.ga_state_ends.specs.declared.end_kind.StoredEnd.{StoredEnd}
 use Rattle.ga_state_ends.proofs.Counting.{some_at}
-use Rattle.ga_state_ends.proofs.Making.{edge_enabled}
-use Rattle.ga_state_ends.proofs.Events.{in_place}
+use Rattle.ga_state_ends.proofs.Lifted.{leads_of, can_edge}
 use Rattle.ga_state_ends.proofs.Whole.{end_reachable, end_bound}
 use Rattle.ga_state_links.proofs.Whole.{holds_over}
 use Rattle.ga_state_conditions.proofs.Whole.{none_met}
@@ -42,23 +43,17 @@ use Rattle.ga_check_report.specs.Expected.WritesExpectationsReport.{all, led, un
 
 -- ---- a path of states
 
-edge_leads : (searched : StoredSearch) (state : ℕ) (chip : List NodeRecord) (edge : Edge) → IsStoredSearch searched → slice_get searched.chips state ≡ Some chip
-    → IsEdgeOfState searched.edges state edge → slice_get searched.chips edge.state ≡ Some (event_result chip edge.event).0
-edge_leads searched state chip edge is at is_edge =
-    let list = some_at searched.edges state (has_list searched.edges state edge is_edge) in
-    let here = in_list searched.edges state is_edge.0 list.0 edge list.1 is_edge.1 in
-    let all = is.explored state chip list.0 at list.1 in
-    All-contains (λ (it : Edge). slice_get searched.chips it.state ≡ Some (event_result chip it.event).0) list.0 edge all.successors (in_place list.0 is_edge.0 edge here)
-
 abbrev path_events : List Edge → List Event
-path_events path = map (λ (edge : Edge). edge.event) path
+path_events [] = []
+path_events (edge ∷ path) = events_of_edge edge ++ path_events path
 
 path_replayed : (searched : StoredSearch) (path : List Edge) (from to : ℕ) (chip there : List NodeRecord) → IsStoredSearch searched → IsStatePath searched.edges from path to
     → slice_get searched.chips from ≡ Some chip → slice_get searched.chips to ≡ Some there → replay chip (path_events path) ≡ Some there
 path_replayed searched [] from to chip there is on at last = sym at ∙ ap (slice_get searched.chips) on ∙ last
 path_replayed searched (edge ∷ path) from to chip there is on at last =
-    replay_more chip edge.event (path_events path) (edge_enabled searched from chip edge is at on.0)
-    ∙ path_replayed searched path edge.state to (event_result chip edge.event).0 there is on.1 (edge_leads searched from chip edge is at on.0) last
+    let leads = leads_of searched is from chip edge at on.0 in
+    let led = replay_more chip edge.event (forced_events edge) (can_edge searched is from chip edge at on.0) ∙ leads.leads in
+    replay_into (events_of_edge edge) (path_events path) chip leads.last led ∙ path_replayed searched path edge.state to leads.last there is on.1 leads.at last
 
 -- ---- what holds
 
@@ -75,7 +70,7 @@ held s found (NodeAtEveryEnd expectation) are whole met = λ last events led ret
 held s found (Never conditions) are whole none = λ last events event place condition at led can met.
     none_met (chip_of_machine s) found are whole conditions.items none place condition at last events event led can met
 held s found (LinkPassesWords expected) are whole none = holds_over (chip_of_machine s) found are whole expected none
-held s found EveryOrderEnds are whole none = (length found.searched.chips, λ last events led. end_bound (chip_of_machine s) found are whole none last events led)
+held s found EveryOrderEnds are whole none = (511 * length found.searched.chips, λ last events led. end_bound (chip_of_machine s) found are whole none last events led)
 held s found OneEnd are whole few =
     let first = end_reachable (chip_of_machine s) found are whole (chip_of_machine s) [] refl in (
       first.1,
@@ -97,8 +92,9 @@ one_end_held s found are is = outcome_held s found OneEnd are (subst (IsExpectat
 pub outcome_broken : (s : MachineState) (found : EndSearchResult) (expectation : Expectation) (breach : Breach) → AreEndsOfChip (chip_of_machine s) found → IsBreachOfExpectation s found expectation breach
     → IsBrokenInSomeOrder s found expectation
 outcome_broken s found (NodeAtEveryEnd expectation) breach are it =
-    let there = unmet_there (chip_of_machine s) found are expectation it.0 it.1 it.2 it.3 in
-    (it.1, there.0.0, there.0.1, there.1, there.2)
+    let unmet = it.1.is_unmet in
+    let there = unmet_there (chip_of_machine s) found are expectation it.0.state (events_of_part it.0.passed) unmet.at_end.stored unmet.chip unmet unmet.at_end.at_end.at unmet.at_end.leads in
+    (unmet.chip, there.0.0, there.0.1, there.1, there.2)
 outcome_broken s found (Never conditions) breach are it = (it.0, it.1, it.2, it.3)
 outcome_broken s found (LinkPassesWords expected) breach are it = (it.0, it.1, it.2, it.3)
 outcome_broken s found EveryOrderEnds breach are it =
@@ -107,7 +103,7 @@ outcome_broken s found EveryOrderEnds breach are it =
     let below : cycle.0 < length found.searched.edges = has_list found.searched.edges cycle.0 cycle.1 cycle.3.0 in
     let chip = some_at found.searched.chips cycle.0 (omega arith) in
     let way = reachable found.searched (chip_of_machine s) cycle.0 chip.0 are.is_search are.initial chip.1 in
-    (chip.0, way.0, cycle.1.event, path_events cycle.2, way.1, path_replayed found.searched (cycle.1 ∷ cycle.2) cycle.0 cycle.0 chip.0 chip.0 are.is_search cycle.3 chip.1 chip.1)
+    (chip.0, way.0, cycle.1.event, forced_events cycle.1 ++ path_events cycle.2, way.1, path_replayed found.searched (cycle.1 ∷ cycle.2) cycle.0 cycle.0 chip.0 chip.0 are.is_search cycle.3 chip.1 chip.1)
 outcome_broken s found OneEnd breach are it = it.1
 
 -- ---- verdicts

@@ -3,7 +3,6 @@
 use Rattle.std.specs.Prelude.{ℕ, ◌≡◌, ◌<◌, ◌≤◌, Bool, true, false, if◌then◌else◌, List, ◌∷◌, length, slice_get, slice_index_or, Some, None}
 use Rattle.std.specs.List.{list_any}
 use Rattle.ga_node.specs.Record.{NodeRecord}
-use Rattle.ga_grid.specs.Chip.{node_record_at}
 use Rattle.ga_event.specs.declared.event.Event.{Event}
 use Rattle.ga_event.specs.declared.made.MadeEvent.{MadeEvent}
 use Rattle.ga_event.specs.Apply.{replay}
@@ -17,12 +16,13 @@ use Rattle.ga_state_links.specs.declared.expectation.LinkFault.{LinkFault}
 use Rattle.ga_state_links.specs.LinkExpectations.{IsLinkExpectationMet, IsLinkBreach}
 use Rattle.ga_state_links.specs.Places.{HasNoLinkBreach}
 use Rattle.ga_state_expectations.specs.declared.expectation.NodeExpectation.{NodeExpectation}
+use Rattle.ga_state_expectations.specs.declared.finding.UnmetChip.{UnmetChip}
 use Rattle.ga_state_expectations.specs.declared.source.Expectation.{Expectation}
 use Rattle.ga_state_expectations.specs.declared.source.Expectation.TheVariants.{NodeAtEveryEnd, Never, LinkPassesWords, EveryOrderEnds, OneEnd}
 use Rattle.ga_state_expectations.specs.declared.source.LineExpectation.{LineExpectation}
 use Rattle.ga_state_expectations.specs.Expectations.{meets_expectation_on_chip}
 use Rattle.ga_state_expectations.specs.Recurrent.{IsRecurrentChip}
-use Rattle.ga_state_expectations.specs.Unmet.{IsExpectationUnmetAt, IsExpectationMetAtEnds}
+use Rattle.ga_state_expectations.specs.Unmet.{IsExpectationMetAtEnds, IsUnmetChipOfState}
 use Rattle.ga_check_report.specs.declared.outcome.Breach.{Breach}
 use Rattle.ga_check_report.specs.declared.outcome.Breach.TheVariants.{Unmet, Reached, OverLink, Endless, SeveralEnds}
 use Rattle.ga_check_report.specs.declared.outcome.ExpectationOutcome.{ExpectationOutcome}
@@ -33,15 +33,13 @@ use Rattle.ga_check_report.specs.EndTexts.{is_fully_explored}
 use Rattle.ga_check_report.specs.SameEnd.{verdict_with_single_end_outcome}
 use Rattle.ga_check_report.specs.declared.request.CheckRequest.{CheckRequest}
 use Rattle.ga_check_report.specs.Never.{HasReachedEvent}
-use Rattle.ga_state_expectations.specs.Observations.{observation_for_requirement}
 
 -- ---- what was found
 
--- the state is one of an end on whose chip the expectation isn't met, and the node has this there
+-- the expectation isn't met on a chip of an end, and the node has this there
 abbrev pub IsUnmetNodeBreach : EndSearchResult → NodeExpectation → Breach → Type 0
 IsUnmetNodeBreach found expectation breach =
-    (state : ℕ) × (chip : List NodeRecord) × IsExpectationUnmetAt found expectation state × (slice_get found.searched.chips state ≡ Some chip)
-    × (breach ≡ Unmet state (observation_for_requirement expectation.requirement (node_record_at chip expectation.node.number)))
+    (unmet : UnmetChip) × IsUnmetChipOfState found expectation unmet.state unmet × (breach ≡ Unmet unmet.state unmet.observation)
 
 -- events led the machine to one on which the event was enabled, and it made the event, after which one of the conditions holds
 abbrev pub IsReachedConditionBreach : MachineState → List StateCondition → Breach → Type 0

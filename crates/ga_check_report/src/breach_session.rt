@@ -6,7 +6,7 @@ ghost use Rattle.ga_lab.specs.Machine.{chip_of_machine};
 ghost use Rattle.ga_lab.specs.declared.fault.LabFault.TheVariants.{Memory, Full};
 ghost use Rattle.ga_state_ends.specs.Ends.{AreEndsOfChip};
 ghost use Rattle.ga_state_conditions.specs.Reached.{IsReachedEvent, HasNoReachedEvent};
-ghost use Rattle.ga_state_expectations.specs.Unmet.{IsExpectationUnmetAt, IsFirstUnmetState};
+ghost use Rattle.ga_state_expectations.specs.Unmet.{IsUnmetChipOfState, IsFirstUnmetChip};
 ghost use Rattle.ga_state_expectations.specs.declared.source.Expectation.TheVariants.{NodeAtEveryEnd, Never};
 ghost use Rattle.ga_check_report.specs.inner.{IsNeverOfConditions, WritesSessionOfExpectation};
 ghost use Rattle.ga_check_report.specs.Checking.{IsWrittenWithVerdictOrFails};
@@ -28,7 +28,7 @@ use ga_lab::{Lab, LabFault};
 use ga_state_conditions::{ReachedEvent, StateCondition, StateConditions, find_reached_event};
 use ga_state_ends::FoundEnds;
 use ga_state_expectations::{
-    Expectation, LineExpectation, NodeExpectation, find_unmet_expectation_state,
+    Expectation, LineExpectation, NodeExpectation, UnmetChip, find_unmet_expectation_chip,
 };
 use ga_text::{WriteResult, Writer};
 use std::alloc::Global;
@@ -64,7 +64,7 @@ pub(crate) fn tell_one<W: Write>(
     }
 }
 
-/// Writes the session that leads to the first state of an end on which the expectation isn't met.
+/// Writes the session that leads to the first chip of an end on which the expectation isn't met.
 fn tell_unmet<W: Write>(
     alloc: Global,
     lab: &mut Lab,
@@ -79,8 +79,8 @@ fn tell_unmet<W: Write>(
     requires said { one.now.expectation ≡ NodeAtEveryEnd expectation.now }
     ensures { WritesText (λ text. WritesSessionOfExpectation request.entry one.now asked lab.old text result) (W.contents writer.old) (W.contents writer.new) }
 {
-    match find_unmet_expectation_state(alloc, found, expectation) {
-        Ok(unmet) => tell_by_state(
+    match find_unmet_expectation_chip(alloc, found, expectation) {
+        Ok(unmet) => tell_by_chip(
             alloc,
             lab,
             found,
@@ -95,31 +95,31 @@ fn tell_unmet<W: Write>(
     }
 }
 
-/// The same, by that state, if there is one.
-fn tell_by_state<W: Write>(
+/// The same, by that chip, if there is one.
+fn tell_by_chip<W: Write>(
     alloc: Global,
     lab: &mut Lab,
     found: &FoundEnds,
     one: &LineExpectation,
     expectation: &NodeExpectation,
-    unmet: Option<u32>,
+    unmet: Option<UnmetChip>,
     request: CheckRequest<'_>,
     asked: u32,
     writer: &mut W,
 ) -> Verdict
     requires ends { AreEndsOfChip (chip_of_machine lab.old) found.now }
     requires said { one.now.expectation ≡ NodeAtEveryEnd expectation.now }
-    requires unmet { IsFirstUnmetState found.now expectation.now unmet }
+    requires unmet { IsFirstUnmetChip found.now expectation.now unmet }
     ensures { WritesText (λ text. WritesSessionOfExpectation request.entry one.now asked lab.old text result) (W.contents writer.old) (W.contents writer.new) }
 {
     match unmet {
-        Some(state) => tell_path(
+        Some(unmet) => tell_path(
             alloc,
             lab,
             found,
             one,
             expectation,
-            state,
+            unmet,
             request,
             asked,
             writer,
@@ -128,47 +128,47 @@ fn tell_by_state<W: Write>(
     }
 }
 
-/// Writes the session that leads to a state of an end on which the expectation isn't met.
+/// Writes the session that leads to a chip of an end on which the expectation isn't met.
 fn tell_path<W: Write>(
     alloc: Global,
     lab: &mut Lab,
     found: &FoundEnds,
     one: &LineExpectation,
     expectation: &NodeExpectation,
-    state: u32,
+    unmet: UnmetChip,
     request: CheckRequest<'_>,
     asked: u32,
     writer: &mut W,
 ) -> Verdict
     requires ends { AreEndsOfChip (chip_of_machine lab.old) found.now }
     requires said { one.now.expectation ≡ NodeAtEveryEnd expectation.now }
-    requires unmet { IsExpectationUnmetAt found.now expectation.now state }
+    requires unmet { IsUnmetChipOfState found.now expectation.now unmet.state unmet }
     ensures { WritesText (λ text. WritesSessionOfExpectation request.entry one.now asked lab.old text result) (W.contents writer.old) (W.contents writer.new) }
 {
-    match lead_to_state(alloc, lab, found, expectation, state) {
+    match lead_to_chip(alloc, lab, found, expectation, unmet) {
         Ok(()) => tell_saved_as(Verdict::SessionWritten, lab, writer),
         Err(LabFault::Full) => tell_refused(request.format, LabFault::Full, writer),
         Err(_) => tell_refused(request.format, LabFault::Memory, writer),
     }
 }
 
-/// Makes the events that lead to a state of an end on which the expectation isn't met.
+/// Makes the events that lead to a chip of an end on which the expectation isn't met.
 ///
 /// # Errors
 /// [`LabFault::Full`] or [`LabFault::Memory`]; some of the events may be kept then.
-fn lead_to_state(
+fn lead_to_chip(
     alloc: Global,
     lab: &mut Lab,
     found: &FoundEnds,
     expectation: &NodeExpectation,
-    state: u32,
+    unmet: UnmetChip,
 ) -> Result<(), LabFault>
     requires ends { AreEndsOfChip (chip_of_machine lab.old) found.now }
-    requires unmet { IsExpectationUnmetAt found.now expectation.now state }
+    requires unmet { IsUnmetChipOfState found.now expectation.now unmet.state unmet }
     ensures led { OnOk result (LeadsToBreach lab.old (NodeAtEveryEnd expectation.now) lab.new) }
     ensures faults { IfErr result (λ why. (why ≡ Full) ⊎ (why ≡ Memory)) }
 {
-    match found.path_from_initial_state(alloc, state) {
+    match found.path_along_edge(alloc, unmet.state, unmet.passed) {
         Ok(events) => make_all(lab, events.as_slice()),
         Err(_) => Err(LabFault::Memory),
     }

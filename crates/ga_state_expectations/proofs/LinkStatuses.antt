@@ -1,11 +1,10 @@
 -- The first word over a link that isn't allowed.
-use Rattle.std.proofs.Common.{◌≡◌, ◌∙◌, ℕ, ◌+◌, Bool, true, false, cond, List, [], ◌∷◌, length, Option, Some, None, refl, sym, ap, arith}
+use Rattle.std.proofs.Common.{◌≡◌, ◌∙◌, ℕ, ◌+◌, Bool, true, false, cond, List, [], ◌∷◌, Option, Some, None, refl, sym, ap}
 use Rattle.ga_scheduler.specs.declared.words.Transfer.{Transfer}
 use Rattle.ga_state_links.specs.declared.expectation.LinkExpectation.{LinkExpectation}
 use Rattle.ga_state_links.specs.declared.expectation.LinkFault.{LinkFault}
-use Rattle.ga_state_expectations.specs.declared.status.ExpectationStatus.{ExpectationStatus}
 use Rattle.ga_state_expectations.specs.Violations.{is_unexpected_word}
-use Rattle.ga_state_expectations.specs.Statuses.{fault_of_unexpected_word, first_link_fault, optional_link_fault_status}
+use Rattle.ga_state_expectations.specs.Statuses.{fault_of_unexpected_word, first_link_fault}
 
 step_fault : (expected : LinkExpectation) (n : ℕ) (sent : Transfer) (rest : List Transfer)
     → first_link_fault expected n (sent ∷ rest) ≡ cond (is_unexpected_word expected n sent.word) (Some (n, fault_of_unexpected_word expected n sent.word)) (first_link_fault expected (n + 1) rest)

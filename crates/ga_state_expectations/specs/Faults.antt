@@ -1,6 +1,6 @@
 -- What standard error says of lines that say what is expected (docs/REFERENCE.md, "Expectations"; this project's own): what is wrong, and what
 -- would be right.
-use Rattle.std.specs.Prelude.{◌-◌, List, [], ◌++◌, length, take, codes, decimal, flat_map}
+use Rattle.std.specs.Prelude.{◌-◌, List, ◌++◌, length, take, codes, decimal, flat_map}
 use Rattle.ga_text.specs.Lines.{Text}
 use Rattle.ga_debug_info.specs.Faults.{prefixed_line, more_faults_text, max_reported_faults, error_prefix, out_of_memory_text}
 use Rattle.ga_state_conditions.specs.declared.asked.ConditionFault.{ConditionFault}

@@ -1,6 +1,6 @@
 -- What the lines of a source expect (docs/REFERENCE.md, "Expectations"; this project's own): of each node in whose program a line is, unless the
 -- line names another node or speaks of all.
-use Rattle.std.specs.Prelude.{ℕ, zero, suc, ◌≡◌, ◌==◌, length, Bool, true, false, ◌&&◌, ◌||◌, not, if◌then◌else◌, List, [], ◌∷◌, ◌++◌, flat_map, position, slice_get, codes, bytes_eq, Option, Some, None, option_and_then, is_some, Result, Ok, Err}
+use Rattle.std.specs.Prelude.{ℕ, ◌==◌, length, Bool, true, false, ◌&&◌, ◌||◌, not, if◌then◌else◌, List, [], ◌∷◌, ◌++◌, flat_map, position, slice_get, codes, bytes_eq, Option, Some, None, option_and_then, is_some, Result, Ok, Err}
 use Rattle.ga_text.specs.Lines.{Text}
 use Rattle.ga_text.specs.Digits.{name_of_node}
 use Rattle.ga_grid.specs.declared.node_id.NodeId.{NodeId}

@@ -1,6 +1,6 @@
 -- What a line of source expects of a program, as text: words with one space between two of them, after `expect` (docs/REFERENCE.md,
 -- "Expectations"; this project's own). Values, comparisons and numbers are those of conditions.
-use Rattle.std.specs.Prelude.{ℕ, zero, suc, ◌+◌, ◌==◌, nat_le, nat_eq, Bool, true, false, ◌&&◌, ◌||◌, not, if◌then◌else◌, List, [], ◌∷◌, ◌++◌, ◌^◌, nat_lt, codes, bytes_eq, Option, Some, None, Result, Ok, Err}
+use Rattle.std.specs.Prelude.{ℕ, zero, suc, ◌+◌, nat_le, Bool, true, false, ◌&&◌, ◌||◌, if◌then◌else◌, List, [], ◌∷◌, ◌++◌, ◌^◌, nat_lt, codes, bytes_eq, Option, Some, None, Result, Ok, Err}
 use Rattle.ga_text.specs.Lines.{Text}
 use Rattle.ga_text.specs.Parsing.{split_at_space, parse_node}
 use Rattle.ga_ports.specs.declared.side.Side.{Side}
@@ -21,7 +21,6 @@ use Rattle.ga_state_links.specs.declared.expectation.LinkExpectation.{LinkExpect
 use Rattle.ga_state_conditions.specs.Asked.{parsed_state_conditions}
 use Rattle.ga_state_conditions.specs.declared.condition.StateCondition.{StateCondition}
 use Rattle.ga_state_conditions.specs.declared.asked.ConditionFault.{ConditionFault}
-use Rattle.ga_state_expectations.specs.declared.expectation.NodeExpectation.{NodeExpectation}
 use Rattle.ga_state_expectations.specs.declared.expectation.NodeRequirement.{NodeRequirement}
 use Rattle.ga_state_expectations.specs.declared.expectation.NodeRequirement.TheVariants.{PassesValueTest, ReadsFromSides, WritesToSide, AwaitsCode, Stopped}
 use Rattle.ga_state_expectations.specs.declared.source.Expectation.{Expectation}

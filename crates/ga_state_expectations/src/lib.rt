@@ -28,7 +28,7 @@ pub use deciding::find_decision_against_expectation;
 pub use expectation::{NodeExpectation, NodeRequirement};
 pub use expecting::{back_until_expecting, has_broken_among, run_expecting};
 pub use faults::{format_expectation_faults, report_expectations_error};
-pub use finding::find_unmet_expectation_state;
+pub use finding::{UnmetChip, find_unmet_expectation_chip};
 pub use knowledge::ExpectationKnowledge;
 pub use lines::{expects_nothing, known_expectations, parse_expectations};
 pub use observation::{NodeObservation, observation_for_requirement};

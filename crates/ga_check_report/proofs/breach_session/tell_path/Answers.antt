@@ -7,6 +7,6 @@ returns-in-Ok g c = λ before held.
     let sent = c.tell_saved_as.ensures before held in (
       sent.0,
       sent.1,
-      led_session c.args.request c.args.lab.now c.lead_to_state.new.lab c.args.one.now (NodeAtEveryEnd c.args.expectation.now) c.args.asked sent.0 c.tell_saved_as.result c.requires.said
+      led_session c.args.request c.args.lab.now c.lead_to_chip.new.lab c.args.one.now (NodeAtEveryEnd c.args.expectation.now) c.args.asked sent.0 c.tell_saved_as.result c.requires.said
           c.in-Ok.ensures.led sent.2,
     )

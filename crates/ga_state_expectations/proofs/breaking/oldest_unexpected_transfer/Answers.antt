@@ -1,8 +1,8 @@
-use Rattle.std.proofs.Common.{◌≡◌, ◌∙◌, ◌+◌, ◌-◌, ap, sym, subst, arith, length, ℕ, Some}
+use Rattle.std.proofs.Common.{◌≡◌, ◌∙◌, ◌+◌, ◌-◌, ap, sym, arith, length, ℕ, Some}
 use Rattle.std.specs.Prelude.{is_some, IsSome}
 use Rattle.ga_event.specs.Apply.{replay}
 use Rattle.ga_event.specs.Told.{made_event_at_place}
-use Rattle.ga_lab.specs.Machine.{MachineState, earlier_state, machine_events_with_outcomes, BackwardState, backward_state}
+use Rattle.ga_lab.specs.Machine.{MachineState, earlier_state, machine_events_with_outcomes, backward_state}
 use Rattle.ga_scheduler.specs.Words.{link_transfer_count, transfers_over_link_by_event}
 use Rattle.ga_scheduler.specs.declared.condition.Condition.TheVariants.{PassesNthWord}
 use Rattle.ga_scheduler.proofs.Newest.{whole_earlier, counted_back}

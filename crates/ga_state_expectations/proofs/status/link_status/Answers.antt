@@ -1,4 +1,4 @@
-use Rattle.std.proofs.Common.{◌≡◌, ◌∙◌, ℕ, ◌+◌, true, false, List, [], ◌∷◌, length, Option, Some, None, sym, ap, arith}
+use Rattle.std.proofs.Common.{◌≡◌, ◌∙◌, ℕ, List, ◌∷◌, length, Option, None, sym, ap, arith}
 use Rattle.ga_lab.specs.Machine.{MachineState, history_of_node}
 use Rattle.ga_scheduler.specs.Words.{link_transfers, unlisted_transfers}
 use Rattle.ga_scheduler.specs.declared.words.Transfer.{Transfer}

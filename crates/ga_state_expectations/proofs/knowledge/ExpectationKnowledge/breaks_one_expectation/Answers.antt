@@ -1,4 +1,4 @@
-use Rattle.std.proofs.Common.{◌≡◌, ◌∙◌, ℕ, ◌+◌, false, slice_index_or, sym, ap}
+use Rattle.std.proofs.Common.{◌∙◌, ℕ, ◌+◌, false, slice_index_or, sym, ap}
 use Rattle.std.specs.List.{slice_index}
 use Rattle.ga_state_expectations.specs.inner.{event_link_words}
 use Rattle.ga_state_expectations.proofs.LinkCounts.{words_after_step}
